@@ -1,10 +1,10 @@
 -- The bytes that pass a test.
-use Rattle.std.proofs.Common.{◌≡◌, ◌↔◌, ℕ, zero, suc, ◌+◌, ◌*◌, ◌<◌, ◌≤◌, Bool, true, false, List, [], ◌∷◌, cond, sym, ap, subst, ◌∙◌, bit_or, inl, inr, ◌⊎◌, zero-add, true≢false, refl, arith}
+use Rattle.std.proofs.Common.{◌≡◌, ◌↔◌, ℕ, zero, suc, ◌+◌, ◌*◌, ◌<◌, ◌≤◌, Bool, true, false, List, [], ◌∷◌, length, cond, sym, ap, subst, ◌∙◌, bit_or, inl, inr, ◌⊎◌, zero-add, true≢false, refl, arith}
 use Rattle.std.specs.Int.{bit_at}
 use Rattle.std.specs.Int.Bits.{or_zero_r, or_add_and}
 use Rattle.std.proofs.lemmas.Nat.Bits.{bit_at-lt, and_pow}
 use Rattle.std.proofs.lemmas.Bool.{cases_eq}
-use Rattle.std.proofs.lemmas.List.Sums.{sum_by-cons}
+use Rattle.std.proofs.lemmas.List.Sums.{sum_by-cons, count_by-le-length}
 use Rattle.cs_syntax.specs.Matching.{member}
 use Rattle.cs_syntax.specs.Members.{count, IsOnly}
 use Rattle.cs_syntax.proofs.ByteSetLemmas.{one_is_only}
@@ -14,6 +14,13 @@ counts_in set = sum_by-cons (λ (x : Bool). cond x 1 0) true set
 
 counts_out : (set : List Bool) → count (false ∷ set) ≡ count set
 counts_out set = sum_by-cons (λ (x : Bool). cond x 1 0) false set ∙ zero-add (count set)
+
+-- a set that counts all is all
+pub all_members : (set : List Bool) → count set ≡ length set → (b : ℕ) → b < length set → member set b ≡ true
+all_members [] e b lt = absurd (omega (arith, lt))
+all_members (true ∷ set) e zero lt = refl
+all_members (true ∷ set) e (suc b) lt = all_members set (omega (arith, e, counts_in set)) b (omega (arith, lt))
+all_members (false ∷ set) e b lt = absurd (omega (arith, e, counts_out set, count_by-le-length (λ (x : Bool). x) set))
 
 -- a set of two members has no other
 two_members : (set : List Bool) → count set ≡ 2 → (a b x : ℕ) → a < b → member set a ≡ true → member set b ≡ true

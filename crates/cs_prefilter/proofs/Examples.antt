@@ -6,8 +6,8 @@ use Rattle.cs_prefilter.specs.declared.masks.NibbleMasks.{NibbleMasks}
 use Rattle.cs_prefilter.specs.declared.masks.TrigramMasks.{TrigramMasks}
 use Rattle.cs_prefilter.specs.Buckets.{buckets, buckets_of}
 use Rattle.std.specs.Prelude.{true, false, codes}
-use Rattle.cs_prefilter.specs.Pairs.{test_lane}
-use Rattle.cs_prefilter.specs.WordBuckets.{bucket_of, first_in}
+use Rattle.cs_prefilter.specs.Pairs.{PassesTest}
+use Rattle.cs_prefilter.specs.WordBuckets.{IsInPart, StartsPart}
 use Rattle.cs_prefilter.specs.Prefixes.{eight}
 use Rattle.cs_prefilter.specs.declared.word.Word.{Word}
 use Rattle.cs_prefilter.specs.WordAt.{WordAt}
@@ -41,21 +41,27 @@ abc_is_in_one_bucket : buckets_of trigram_masks 97 98 99 ≡ 4
 unfolding buckets_of buckets trigram_masks masks entry
 abc_is_in_one_bucket = refl
 
--- a test of both cases of a letter: `a` and `A` pass, and `q` has a lane of 0
+-- a test of both cases of a letter: `a` and `A` pass, and `q` does not
 letter : ByteTest
 letter = record { mask = 32; byte = 97 }
 
-both_cases_pass : (test_lane true letter 65 ≡ 255) × (test_lane true letter 97 ≡ 255) × (test_lane true letter 113 ≡ 0)
+both_cases_pass : PassesTest true letter 65 × PassesTest true letter 97 × (PassesTest true letter 113 → ⊥)
 unfolding letter
-both_cases_pass = (refl, refl, refl)
+both_cases_pass = (refl, refl, λ e. absurd (omega (arith, e)))
 
-capital_needs_the_mask : test_lane false letter 65 ≡ 0
+capital_needs_the_mask : PassesTest false letter 65 → ⊥
 unfolding letter
-capital_needs_the_mask = refl
+capital_needs_the_mask e = absurd (omega (arith, e))
 
 -- three words have the buckets 0, 2 and 5, and bucket 2 has the word 1 alone
-three_words : (bucket_of 0 3 ≡ 0) × (bucket_of 1 3 ≡ 2) × (bucket_of 2 3 ≡ 5) × (first_in 2 3 ≡ 1) × (first_in 3 3 ≡ 2)
-three_words = (refl, refl, refl, refl, refl)
+three_words : IsInPart 3 0 0 × IsInPart 3 2 1 × IsInPart 3 5 2 × StartsPart 3 2 1 × StartsPart 3 3 2
+three_words = (
+  record { low = omega arith; high = omega arith },
+  record { low = omega arith; high = omega arith },
+  record { low = omega arith; high = omega arith },
+  λ i. (λ low. omega (arith, low), λ low. omega (arith, low)),
+  λ i. (λ low. omega (arith, low), λ low. omega (arith, low)),
+)
 
 -- the list of no bytes: two strides are probed; the list of ten bytes with one line: two more, and each byte decided
 lists_of_lines : (list_work 0 0 ≡ 128) × (list_work 10 1 ≡ 21396)

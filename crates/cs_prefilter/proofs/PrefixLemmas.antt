@@ -1,9 +1,9 @@
 -- Eight bytes as one number, and the prefixes of words.
-use Rattle.std.proofs.Common.{◌≡◌, ℕ, zero, suc, ◌+◌, ◌-◌, ◌*◌, ◌<◌, ◌≤◌, ◌^◌, List, [], ◌∷◌, length, get_or, inl, inr, ◌++◌, ap, sym, subst, ◌∙◌, add-zero, true, refl, bit_or, w64, arith}
+use Rattle.std.proofs.Common.{◌≡◌, ℕ, zero, suc, ◌+◌, ◌-◌, ◌*◌, ◌<◌, ◌≤◌, ◌^◌, Bool, List, [], ◌∷◌, length, get_or, set, inl, inr, ◌++◌, ap, sym, subst, ◌∙◌, add-zero, true, refl, bit_or, w64, arith}
 use Rattle.std.specs.Int.{from_le_bytes}
 use Rattle.std.specs.Int.Bits.{or_zero_r}
 use Rattle.std.proofs.lemmas.Bool.{cases_lt}
-use Rattle.std.proofs.lemmas.List.{get_or_append_left}
+use Rattle.std.proofs.lemmas.List.{get_or_append_left, get_or-set_same, get_or-set_other}
 use Rattle.std.proofs.Math.Seq.{get_or-append_seam}
 use Rattle.std.specs.Simd.Lanes.{zip2}
 use Rattle.std.proofs.lemmas.Nat.{or_block, or_of_8}
@@ -63,6 +63,36 @@ list_of_eight f = f 0 ∷ f 1 ∷ f 2 ∷ f 3 ∷ f 4 ∷ f 5 ∷ f 6 ∷ f 7 �
 
 small_eight : (f : ℕ → ℕ) → ((i : ℕ) → f i < 256) → AreSmall (list_of_eight f)
 small_eight f small = (small 0, (small 1, (small 2, (small 3, (small 4, (small 5, (small 6, (small 7, tt))))))))
+
+-- the tests of two lists of numbers, all of them exact or none
+abbrev pub byte_of : List ℕ → List ℕ → Bool → ℕ → PrefixByte
+byte_of mask bytes is_exact i = record { test = record { mask = get_or mask i 0; byte = get_or bytes i 0 }; is_exact = is_exact }
+
+-- the same test, exact only if the other is
+tests_as : (word : Word) (i : ℕ) (a b : PrefixByte) → b.test.mask ≡ a.test.mask → b.test.byte ≡ a.test.byte
+    → (b.is_exact ≡ true → a.is_exact ≡ true) → TestsByte word i a → TestsByte word i b
+tests_as word i a b mask_is byte_is exact_is tests = record {
+  small = (subst (λ n. n < 256) (sym mask_is) tests.small.0, subst (λ n. n < 256) (sym byte_is) tests.small.1);
+  passes = λ c small has. ap (bit_or c) mask_is ∙ tests.passes c small has ∙ sym byte_is;
+  exact = λ is c small pass. tests.exact (exact_is is) c small (ap (bit_or c) (sym mask_is) ∙ pass ∙ byte_is);
+}
+
+-- one more test in the lists
+pub tests_more : (word : Word) (mask bytes : List ℕ) (was is : Bool) (n : ℕ) (byte : PrefixByte) → n < length mask → n < length bytes
+    → ((i : ℕ) → i < n → TestsByte word i (byte_of mask bytes was i)) → TestsByte word n byte
+    → (is ≡ true → (was ≡ true) × (byte.is_exact ≡ true))
+    → (i : ℕ) → i < n + 1 → TestsByte word i (byte_of (set mask n byte.test.mask) (set bytes n byte.test.byte) is i)
+tests_more word mask bytes was is n byte in_mask in_bytes each last both i lt = elim (cases_lt i n) [
+  | inl before ↦
+      let other : i ≡ n → ⊥ = λ same. absurd (omega (arith, same, before)) in
+      tests_as word i (byte_of mask bytes was i) _ (get_or-set_other mask n i byte.test.mask 0 other)
+      (get_or-set_other bytes n i byte.test.byte 0 other) (λ e. (both e).0) (each i before)
+  | inr after ↦
+      let here : n ≡ i = omega (arith, lt, after) in
+      subst (λ (j : ℕ). TestsByte word j (byte_of (set mask n byte.test.mask) (set bytes n byte.test.byte) is j)) here
+      (tests_as word n byte _ (get_or-set_same mask n byte.test.mask 0 in_mask) (get_or-set_same bytes n byte.test.byte 0 in_bytes)
+      (λ e. (both e).1) last)
+]
 
 -- the prefix that eight tests make
 module _ (word : Word) (byte : ℕ → PrefixByte) (tests : (i : ℕ) → i < 8 → TestsByte word i (byte i)) where

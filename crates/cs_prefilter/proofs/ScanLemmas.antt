@@ -9,8 +9,9 @@ use Rattle.cs_syntax.specs.Matching.{member}
 use Rattle.cs_prefilter.specs.declared.word.Word.{Word}
 use Rattle.cs_prefilter.specs.WordAt.{WordAt, NoWordFrom}
 use Rattle.cs_prefilter.specs.Probe.{MarksBits, MarksBuckets, NoneFrom}
-use Rattle.cs_prefilter.specs.WordBuckets.{AreFound, AreInBuckets, bucket_of}
+use Rattle.cs_prefilter.specs.WordBuckets.{AreFound, AreInBuckets}
 use Rattle.cs_prefilter.specs.Stop.{NoneUnmarked}
+use Rattle.cs_prefilter.proofs.WordBucketLemmas.{in_a_part}
 use Rattle.cs_prefilter.proofs.BitLemmas.{below_lowest, without_lowest, other_bit_kept}
 
 -- a word also occurs in a copy with more bytes behind
@@ -63,14 +64,16 @@ module _ (words : List Word) (text : List ℕ) where
   module _ (Finds : ℕ → Word → Type 0) (found : AreFound Finds words) where
     pub none_unmarked : (offset marks : ℕ) → MarksBits Finds text offset marks → NoneUnmarked words text offset marks
     none_unmarked offset marks set k below inside clear i d within occurs =
-        absurd (omega (arith, clear, set k (bucket_of i (length words)) (get_or words i d) below (found i d within) occurs))
+        let part = in_a_part (length words) i within in
+        absurd (omega (arith, clear, set k part.0 (get_or words i d) below (found i part.0 d within part.2) occurs))
 
     pub none_found : (from to : ℕ) → NoneFrom Finds text from to → NoWordFrom words text from to
     none_found from to none k low high i d within occurs =
-        none k (bucket_of i (length words)) (get_or words i d) low high (found i d within) occurs
+        let part = in_a_part (length words) i within in
+        none k part.0 (get_or words i d) low high (found i part.0 d within part.2) occurs
 
     pub in_buckets : (offset buckets : ℕ) → MarksBuckets Finds text offset buckets → AreInBuckets words buckets text offset
-    in_buckets offset buckets set i d within occurs = set (bucket_of i (length words)) (get_or words i d) (found i d within) occurs
+    in_buckets offset buckets set i bucket d within part occurs = set bucket (get_or words i d) (found i bucket d within part) occurs
 
     pub none_unmarked_in_copy : (last : List ℕ) (from n base marks : ℕ) → MarksBits Finds last base marks
         → from + n ≡ length text → n ≤ length last → ((j : ℕ) → j < n → get_or last j 0 ≡ get_or text (from + j) 0)
@@ -79,4 +82,5 @@ module _ (words : List Word) (text : List ℕ) where
         let there : from + base + k ≡ from + (base + k) = omega arith in
         let word = get_or words i d in
         let copied = occurs_in_copy text last from n (base + k) word end short same (subst (λ (j : ℕ). WordAt text j word) there occurs) in
-        absurd (omega (arith, clear, set k (bucket_of i (length words)) word below (found i d within) copied))
+        let part = in_a_part (length words) i within in
+        absurd (omega (arith, clear, set k part.0 word below (found i part.0 d within part.2) copied))

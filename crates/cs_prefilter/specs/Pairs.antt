@@ -1,10 +1,9 @@
 -- Pairs of bytes: two tests of bytes of a word, each at its offset in the word.
-use Rattle.std.specs.Prelude.{◌≡◌, ℕ, ◌+◌, ◌<◌, ◌⊎◌, Bool, true, false, List, length, slice_index, slice_index_or, bit_and, bit_or}
+use Rattle.std.specs.Prelude.{◌≡◌, ◌≢◌, ◌↔◌, ℕ, ◌+◌, ◌<◌, ◌⊎◌, Bool, true, false, List, length, slice_index, slice_index_or, bit_or}
 use Rattle.cs_prefilter.specs.declared.word.Word.{Word}
 use Rattle.cs_prefilter.specs.declared.byte_test.ByteTest.{ByteTest}
 use Rattle.cs_prefilter.specs.declared.pair.Pair.{Pair}
 use Rattle.cs_prefilter.specs.ByteTest.{IsTestOf, used_mask}
-use Rattle.cs_prefilter.specs.Lanes.{full_if_equal}
 
 -- the test is one of the set at this offset of the word
 pub record TestsAt (word : Word) (test : ByteTest) (at : ℕ) : Type 0 where
@@ -28,12 +27,16 @@ HasPair folded two first second bucket word =
     ((bucket ≡ 0) × HasMasks folded first × IsPairOf first word)
     ⊎ ((two ≡ true) × (bucket ≡ 4) × HasMasks folded second × IsPairOf second word)
 
--- 255 if the byte passes the test, and 0 if not
-abbrev pub test_lane : Bool → ByteTest → ℕ → ℕ
-test_lane folded test b = full_if_equal (bit_or b (used_mask folded test)) test.byte
+-- the byte passes the test; without the flag its mask is not used
+abbrev pub PassesTest : Bool → ByteTest → ℕ → Type 0
+PassesTest folded test b = bit_or b (used_mask folded test) ≡ test.byte
 
--- 255 if both tests pass for a word at offset k, and 0 if not
-unfoldable pub pair_lane : Bool → Pair → List ℕ → ℕ → ℕ
-pair_lane folded pair text k =
-    bit_and (test_lane folded pair.first (slice_index text (k + pair.first_at)))
-    (test_lane folded pair.second (slice_index text (k + pair.second_at)))
+-- both bytes of a word at offset k pass their tests
+abbrev pub PassesPair : Bool → Pair → List ℕ → ℕ → Type 0
+PassesPair folded pair text k =
+    PassesTest folded pair.first (slice_index text (k + pair.first_at))
+    × PassesTest folded pair.second (slice_index text (k + pair.second_at))
+
+-- among the next 32 offsets, the lane of each at which both tests pass is not 0, and no other
+abbrev pub MarksPair : Bool → Pair → List ℕ → ℕ → List ℕ → Type 0
+MarksPair folded pair text offset lanes = (k : ℕ) → k < 32 → (slice_index lanes k ≢ 0) ↔ PassesPair folded pair text (offset + k)

@@ -1,7 +1,7 @@
 // Buckets of words. Neighbours in a list of words share a bucket.
-ghost use Rattle.std.specs.Prelude.{◌≡◌, ◌+◌, ◌*◌, ◌/◌, ◌<◌, ◌≤◌, min};
+ghost use Rattle.std.specs.Prelude.{◌<◌, ◌≤◌};
 ghost use Rattle.cs_prefilter.specs.OffsetWork.{most_words};
-ghost use Rattle.cs_prefilter.specs.WordBuckets.{bucket_of, first_in};
+ghost use Rattle.cs_prefilter.specs.WordBuckets.{IsInPart, StartsPart};
 
 /// The number of buckets. Each has one bit of a byte.
 pub(crate) const BUCKETS: usize = 8;
@@ -10,7 +10,7 @@ pub(crate) const BUCKETS: usize = 8;
 pub(crate) fn bucket_of(index: usize, len: usize) -> usize
     requires within { index < len }
     requires few { len ≤ most_words }
-    ensures is { result ≡ bucket_of index len }
+    ensures is { IsInPart len result index }
     ensures bound { result < BUCKETS }
 {
     index * BUCKETS / len
@@ -21,7 +21,7 @@ pub(crate) fn bucket_of(index: usize, len: usize) -> usize
 pub(crate) fn first_in(bucket: usize, len: usize) -> usize
     requires within { bucket ≤ BUCKETS }
     requires few { len ≤ most_words }
-    ensures { result ≡ first_in bucket len }
+    ensures { StartsPart len bucket result }
 {
     (bucket * len + 7) / BUCKETS
 }

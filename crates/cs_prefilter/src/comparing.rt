@@ -53,10 +53,12 @@ impl WordList {
         requires within { offset + 8 ≤ length text.now }
         ensures found { IsTrue result → Any (WordAt text.now offset) self.now.words.items }
         ensures none { result ≡ false → NoneOfBucket self.now.words.items bucket text.now offset }
-        ensures work { CountsAtMost (bucket_work bucket self.now.words.items) steps.old steps.new }
+        ensures work { CountsAtMost bucket_work steps.old steps.new }
     {
         let len = self.words.len();
-        for i in first_in(bucket, len)..first_in(bucket + 1, len) {
+        let first = first_in(bucket, len);
+        let end = first_in(bucket + 1, len);
+        for i in first..end {
             if self.occurs_at(i, text, offset, steps) {
                 return true;
             }

@@ -1,8 +1,7 @@
 // Pairs of bytes (the packed pairs of memchr's memmem): two rare bytes of a word, compared at their
 // distance by vectors, for one or two words whose letters may be folded.
 ghost use Rattle.std.specs.Prelude.{◌≡◌, ◌≢◌, ℕ, ◌+◌, ◌<◌, ◌≤◌, length, slice_index, IsTrue, IfSome, bit_and};
-ghost use Rattle.cs_prefilter.specs.Lanes.{HasLanes};
-ghost use Rattle.cs_prefilter.specs.Pairs.{IsPairOf, HasMasks, pair_lane};
+ghost use Rattle.cs_prefilter.specs.Pairs.{IsPairOf, HasMasks, MarksPair};
 
 use crate::byte_test::ByteTest;
 use crate::lanes::{both, either};
@@ -45,11 +44,11 @@ impl Pair {
         self.first.mask != 0 || self.second.mask != 0
     }
 
-    /// For the next 32 offsets, 255 if both tests pass and 0 if not.
+    /// For the next 32 offsets, a value that is not 0 if both tests pass.
     #[inline(always)]
     fn lanes<const FOLDED: bool>(&self, text: &[u8], offset: usize) -> u8x32
         requires { offset + 64 ≤ length text.now }
-        ensures { HasLanes result (λ k. pair_lane FOLDED self.now text.now (offset + k)) }
+        ensures { MarksPair FOLDED self.now text.now offset result }
     {
         both(
             self.first.lanes::<FOLDED>(text, offset + self.first_at),

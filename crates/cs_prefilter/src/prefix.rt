@@ -25,44 +25,19 @@ impl Prefix {
     pub(crate) fn of(word: &Word) -> Prefix
         ensures { IsPrefixOf word.now result }
     {
-        let b0 = prefix_byte(word, 0);
-        let b1 = prefix_byte(word, 1);
-        let b2 = prefix_byte(word, 2);
-        let b3 = prefix_byte(word, 3);
-        let b4 = prefix_byte(word, 4);
-        let b5 = prefix_byte(word, 5);
-        let b6 = prefix_byte(word, 6);
-        let b7 = prefix_byte(word, 7);
+        let mut mask = [255u8; 8];
+        let mut bytes = [255u8; 8];
+        let mut is_whole = is_covered(word);
+        for index in 0..8 {
+            let byte = prefix_byte(word, index);
+            mask[index] = byte.test.mask;
+            bytes[index] = byte.test.byte;
+            is_whole = is_whole && byte.is_exact;
+        }
         Prefix {
-            mask: u64::from_le_bytes([
-                b0.test.mask,
-                b1.test.mask,
-                b2.test.mask,
-                b3.test.mask,
-                b4.test.mask,
-                b5.test.mask,
-                b6.test.mask,
-                b7.test.mask,
-            ]),
-            bytes: u64::from_le_bytes([
-                b0.test.byte,
-                b1.test.byte,
-                b2.test.byte,
-                b3.test.byte,
-                b4.test.byte,
-                b5.test.byte,
-                b6.test.byte,
-                b7.test.byte,
-            ]),
-            is_whole: is_covered(word)
-                & b0.is_exact
-                & b1.is_exact
-                & b2.is_exact
-                & b3.is_exact
-                & b4.is_exact
-                & b5.is_exact
-                & b6.is_exact
-                & b7.is_exact,
+            mask: u64::from_le_bytes(mask),
+            bytes: u64::from_le_bytes(bytes),
+            is_whole,
         }
     }
 

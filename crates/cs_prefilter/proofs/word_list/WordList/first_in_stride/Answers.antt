@@ -2,8 +2,22 @@ use Rattle.std.proofs.Common.{◌≡◌, ◌+◌, ◌<◌, ap, sym, ◌∙◌, w
 use Rattle.std.specs.Int.{trailing_zeros}
 use Rattle.std.specs.Int.Count.{trailing_of_zero}
 use Rattle.cs_prefilter.proofs.BitLemmas.{lowest_within, lowest_rises}
-use Rattle.cs_prefilter.proofs.ScanLemmas.{none_before_lowest, none_cleared}
+use Rattle.cs_prefilter.proofs.ScanLemmas.{none_before_lowest, none_cleared, none_unmarked, in_buckets}
 use Rattle.cs_prefilter.proofs.word_list.WordList.first_in_stride.Goals as goal
+
+pub marks-init : goal.marks-init
+marks-init g c = record {
+  none = none_unmarked c.args.self.now.words.items c.args.text.now (g.P.Probe.Finds c.args.probe.now) c.requires.finds c.args.offset
+      c.marks-rest.result c.marks-rest.ensures;
+  wasted = omega arith;
+  rises = omega arith;
+  work = omega arith;
+}
+
+pub occur-requires-clause-buckets : goal.occur-requires-clause-buckets
+occur-requires-clause-buckets g c =
+    in_buckets c.args.self.now.words.items c.args.text.now (g.P.Probe.Finds c.args.probe.now) c.requires.finds
+    (c.args.offset + trailing_zeros w64 c.marks.rest) c.buckets.result c.buckets.ensures
 
 pub marks-preserved : goal.marks-preserved
 marks-preserved g c =

@@ -2,13 +2,12 @@ use Rattle.std.proofs.Common.{ℕ, ◌+◌, ◌-◌, ◌*◌, ◌<◌, ◌≤◌
 use Rattle.cs_prefilter.specs.declared.word.Word.{Word}
 use Rattle.cs_prefilter.specs.OffsetWork.{word_work}
 use Rattle.cs_prefilter.specs.WordAt.{WordAt}
-use Rattle.cs_prefilter.specs.WordBuckets.{first_in}
 use Rattle.cs_prefilter.proofs.word_list.WordList.occurs_in.Given as goal
 
 abbrev pub invariant-loop-i : goal.invariant-loop-i
 invariant-loop-i l = record {
-  none : (i : ℕ) (d : Word) → first_in l.bucket (length l.self.words.items) ≤ i → i < l.i
+  none : (i : ℕ) (d : Word) → l.first ≤ i → i < l.i
       → WordAt l.text l.offset (get_or l.self.words.items i d) → ⊥;
   rises : l.fn.steps.count ≤ l.steps.count;
-  work : l.steps.count ≤ l.fn.steps.count + (l.i - first_in l.bucket (length l.self.words.items)) * word_work;
+  work : l.steps.count ≤ l.fn.steps.count + (l.i - l.first) * word_work;
 }

@@ -69,7 +69,7 @@ module _ (text : List ℕ) where
         ),
       )
 
-  ends_empty : (i : ℕ) → i ≤ length text → SetsEndAt text [] i
+  abbrev ends_empty : (i : ℕ) → i ≤ length text → SetsEndAt text [] i
   ends_empty i le = record { within = le; start = i; long = omega arith; each = λ k d lt. absurd (omega arith) }
 
   abbrev ends_more : (sets : List (List Bool)) (set : List Bool) (i j : ℕ) → SetsEndAt text sets i → i < length text →
@@ -132,7 +132,7 @@ module _ (line : List ℕ) (runs : Runs) (j : ℕ) (e : RunEnds runs line j) whe
 -- a run with the same sets
 module _ (line : List ℕ) (old new : Runs) (from to i j : ℕ) (sets : sets_from from old ≡ sets_from to new) (still : i ≡ j)
     (e : EndsAt line old from i) where
-  abbrev same_ends : (to ≡ new.start → IsBehind new.before line e.ends.start) →
+  abbrev pub same_ends : (to ≡ new.start → IsBehind new.before line e.ends.start) →
       (to ≡ new.start → new.is_at_edge ≡ true → is_at_word_boundary line e.ends.start ≡ true) → EndsAt line new to j
   same_ends before edge = record {
     is_line = e.is_line;

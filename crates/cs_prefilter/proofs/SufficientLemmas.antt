@@ -16,7 +16,7 @@ set_at word i = get_or word.sets.items i []
 
 module _ (word : Word) (line : List ℕ) (at : ℕ) (is_line : IsLine line) (occurs : WordAt (with_newline line) at word) where
   byte_at : (i : ℕ) → i < vec_len word.sets → member (set_at word i) (get_or (with_newline line) (at + i) 0) ≡ true
-  byte_at i low = occurs.each i [] low
+  byte_at i low = occurs.each i [] (omega (arith, low))
 
   up_to_end : (i : ℕ) → i < vec_len word.sets → at + i ≤ length line
   up_to_end i low = omega (arith, occurs.within, one_more line)

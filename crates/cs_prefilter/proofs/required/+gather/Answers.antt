@@ -5,7 +5,7 @@ use Rattle.cs_syntax.specs.Matching.{Trees, cat, alt, MatchesSequence, MatchesBr
 use Rattle.cs_syntax.specs.Node.{tree_of}
 use Rattle.cs_syntax.specs.NodeList.{trees_of}
 use Rattle.cs_syntax.specs.declared.node.Node.{Node}
-use Rattle.cs_syntax.proofs.NodeLemmas.{tree_of-Set, tree_of-Cat, tree_of-Alt, tree_of-Rep}
+use Rattle.cs_syntax.proofs.NodeLemmas.{tree_of-Empty, tree_of-NotWordEdge, tree_of-Set, tree_of-Cat, tree_of-Alt, tree_of-Rep, tree_of-LineStart, tree_of-LineEnd, tree_of-WordEdge}
 use Rattle.cs_syntax.proofs.TreeLemmas.{trees_from}
 use Rattle.cs_prefilter.specs.WordAt.{HasWord, with_newline}
 use Rattle.cs_prefilter.specs.Words.{HasWordOf}
@@ -23,6 +23,25 @@ pub gather-returns-in-Set : goal.gather-returns-in-Set
 gather-returns-in-Set t c =
     let e = ap tree_of c.in-Set.is ∙ tree_of-Set c.in-Set.set in
     on_ok_weaker c.add.result (follow_same _ _ c.args.runs.now c.add.new.self e) c.add.ensures
+
+pub gather-returns-in-Empty : goal.gather-returns-in-Empty
+gather-returns-in-Empty t c = follow_same _ _ c.args.runs.now c.args.runs.now (ap tree_of c.in-Empty.is ∙ tree_of-Empty) (follow_none _ (λ line i j h. h) _)
+
+pub gather-returns-in-Empty-2 : goal.gather-returns-in-Empty-2
+gather-returns-in-Empty-2 t c =
+    follow_same _ _ c.args.runs.now c.args.runs.now (ap tree_of c.in-Empty.is ∙ tree_of-NotWordEdge) (follow_none _ (λ line i j h. h.0) _)
+
+pub gather-returns-in-LineStart : goal.gather-returns-in-LineStart
+gather-returns-in-LineStart t c =
+    follow_same _ _ c.args.runs.now c.add_line_start.new.self (ap tree_of c.in-LineStart.is ∙ tree_of-LineStart) c.add_line_start.ensures
+
+pub gather-returns-in-LineEnd : goal.gather-returns-in-LineEnd
+gather-returns-in-LineEnd t c = on_ok_weaker c.add_line_end.result
+    (follow_same _ _ c.args.runs.now c.add_line_end.new.self (ap tree_of c.in-LineEnd.is ∙ tree_of-LineEnd)) c.add_line_end.ensures
+
+pub gather-returns-in-WordEdge : goal.gather-returns-in-WordEdge
+gather-returns-in-WordEdge t c = on_ok_weaker c.add_word_edge.result
+    (follow_same _ _ c.args.runs.now c.add_word_edge.new.self (ap tree_of c.in-WordEdge.is ∙ tree_of-WordEdge)) c.add_word_edge.ensures
 
 pub gather-returns-in-Cat : goal.gather-returns-in-Cat
 gather-returns-in-Cat t c =
@@ -103,4 +122,12 @@ best_of_each-loop-branch-preserved t c = λ line i j is here h.
             (c.in_ok-words.ensures line i j is here here_matched))))
         | inr later ↦ inr later
       ]
+    ]
+
+pub best_of_each-returns : goal.best_of_each-returns
+best_of_each-returns t c = λ line i j is here h.
+    let end = drop_of_length-le c.args.branches.now {i = c.loop-branch.branch-index} (omega arith) in
+    elim (c.loop-branch.invariant line i j is here h) [
+      | inl has ↦ has
+      | inr left ↦ absurd (subst (λ (ns : List Node). MatchesBranch line (trees_of ns) i j) end left)
     ]

@@ -33,7 +33,8 @@ fn gather(alloc: Global, kind: Kind, node: &Node, runs: &mut Runs) -> Result<(),
         (RunsFollow (λ line i j. MatchesSpan line (tree_of node.now) i j) runs.old runs.new) }
 {
     match node {
-        Node::Empty | Node::NotWordEdge => Ok(()),
+        Node::Empty => Ok(()),
+        Node::NotWordEdge => Ok(()),
         Node::LineStart => {
             runs.add_line_start();
             Ok(())

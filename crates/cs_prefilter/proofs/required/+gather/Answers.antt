@@ -27,9 +27,9 @@ gather-returns-in-Set t c =
 pub gather-returns-in-Empty : goal.gather-returns-in-Empty
 gather-returns-in-Empty t c = follow_same _ _ c.args.runs.now c.args.runs.now (ap tree_of c.in-Empty.is ∙ tree_of-Empty) (follow_none _ (λ line i j h. h) _)
 
-pub gather-returns-in-Empty-2 : goal.gather-returns-in-Empty-2
-gather-returns-in-Empty-2 t c =
-    follow_same _ _ c.args.runs.now c.args.runs.now (ap tree_of c.in-Empty.is ∙ tree_of-NotWordEdge) (follow_none _ (λ line i j h. h.0) _)
+pub gather-returns-in-NotWordEdge : goal.gather-returns-in-NotWordEdge
+gather-returns-in-NotWordEdge t c =
+    follow_same _ _ c.args.runs.now c.args.runs.now (ap tree_of c.in-NotWordEdge.is ∙ tree_of-NotWordEdge) (follow_none _ (λ line i j h. h.0) _)
 
 pub gather-returns-in-LineStart : goal.gather-returns-in-LineStart
 gather-returns-in-LineStart t c =

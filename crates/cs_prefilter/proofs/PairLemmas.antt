@@ -46,11 +46,10 @@ test_passes folded text k word test at bytes occurs unmasked tests =
 -- where a word occurs, a pair of it passes
 pub pair_passes : (folded : Bool) (text : List ℕ) (k : ℕ) (word : Word) (pair : Pair) → ((i : ℕ) → get_or text i 0 < 256)
     → HasMasks folded pair → IsPairOf pair word → WordAt text k word → PassesPair folded pair text k
-pair_passes folded text k word pair bytes masks is occurs =
-    (
-      test_passes folded text k word pair.first pair.first_at bytes occurs (λ e. (masks e).0) is.first,
-      test_passes folded text k word pair.second pair.second_at bytes occurs (λ e. (masks e).1) is.second,
-    )
+pair_passes folded text k word pair bytes masks is occurs = (
+  test_passes folded text k word pair.first pair.first_at bytes occurs (λ e. (masks e).0) is.first,
+  test_passes folded text k word pair.second pair.second_at bytes occurs (λ e. (masks e).1) is.second,
+)
 
 -- two lanes are full together if and only if the numbers of both are equal
 pub both_full : (a b c d : ℕ) → (bit_and (full_if_equal a b) (full_if_equal c d) ≢ 0) ↔ ((a ≡ b) × (c ≡ d))
@@ -59,7 +58,7 @@ both_full a b c d = by (eqb a b) (eqb c d) refl refl
     by : (s t : Bool) → eqb a b ≡ s → eqb c d ≡ t → (bit_and (full_if_equal a b) (full_if_equal c d) ≢ 0) ↔ ((a ≡ b) × (c ≡ d))
     by true true e f = (
       λ some. (eqb-true a b e, eqb-true c d f),
-      λ same zero. 
+      λ same zero.
           let lane : 255 ≡ 0 = sym (λ i. bit_and (cond (e i) 255 0) (cond (f i) 255 0)) ∙ zero in
           absurd (omega (arith, lane)),
     )

@@ -1,5 +1,5 @@
--- The work of a prefilter at an offset of a text, in steps. A step is an offset skipped, a word compared, or a byte set of
--- a word tested. docs/PROMISES.md, "Work".
+-- The work of a prefilter at an offset of a text, in steps. A step is an offset skipped, a word compared (its first eight
+-- bytes and the byte before them), or a byte set of a word tested. docs/PROMISES.md, "Work".
 use Rattle.std.specs.Prelude.{ℕ, ◌+◌, ◌*◌}
 
 -- the most words of a prefilter

@@ -1,12 +1,12 @@
 //! A prefilter: it finds the words that every line that a tree matches has to contain, and skips
 //! the offsets of a text at which none of them occurs. A word is a byte set for each of some
-//! neighbouring bytes. One or two words are searched for by pairs of their bytes, as in memchr's
-//! memmem, and others by their first three sets, after Hyperscan's Teddy, with shufti nibble masks:
-//! a probe tests 64 offsets at once, and words are compared where it may have found one. Read
-//! `specs/WordAt.antt` first, and `specs/OffsetWork.antt` (what a step is); `specs/Runs.antt`
-//! defines what a walk over a tree knows, `specs/Probe.antt` what a probe says, `specs/Pairs.antt`
-//! the pairs, `specs/Buckets.antt` the nibble masks and `specs/Prefixes.antt` how words are
-//! compared.
+//! neighbouring bytes, and one for the byte before them. One or two words are searched for by pairs
+//! of their bytes, as in memchr's memmem, and others by their first three sets, after Hyperscan's
+//! Teddy, with shufti nibble masks: a probe tests 64 offsets at once, and words are compared where
+//! it may have found one. Read `specs/WordAt.antt` first, and `specs/OffsetWork.antt` (what a step
+//! is); `specs/Runs.antt` defines what a walk over a tree knows, `specs/Probe.antt` what a probe
+//! says, `specs/Pairs.antt` the pairs, `specs/Buckets.antt` the nibble masks and
+//! `specs/Prefixes.antt` how words are compared.
 //!
 //! One walk over the tree collects *runs*: the byte sets that neighbouring bytes of each match are
 //! in, from left to right. An assertion or an empty part does not interrupt a run. A repeat of at

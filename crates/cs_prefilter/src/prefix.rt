@@ -66,22 +66,14 @@ fn prefix_byte(word: &Word, index: usize) -> PrefixByte
         mask: 255,
         byte: 255,
     };
-    match word.sets.get(index) {
+    let (test, is_exact) = match word.sets.get(index) {
         Some(set) => match ByteTest::of(set) {
-            Some(test) => PrefixByte {
-                test,
-                is_exact: true,
-            },
-            None => PrefixByte {
-                test: any,
-                is_exact: false,
-            },
+            Some(test) => (test, true),
+            None => (any, false),
         },
-        None => PrefixByte {
-            test: any,
-            is_exact: true,
-        },
-    }
+        None => (any, true),
+    };
+    PrefixByte { test, is_exact }
 }
 
 /// The eight bytes at the offset.

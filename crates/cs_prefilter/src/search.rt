@@ -74,16 +74,11 @@ impl Search {
         match words {
             [word] => {
                 let first = Pair::of(word)?;
+                let second = first;
                 Some(if first.is_folded() {
-                    Search::FoldedPair(Pairs {
-                        first,
-                        second: first,
-                    })
+                    Search::FoldedPair(Pairs { first, second })
                 } else {
-                    Search::Pair(Pairs {
-                        first,
-                        second: first,
-                    })
+                    Search::Pair(Pairs { first, second })
                 })
             }
             [word, other] => {

@@ -1,4 +1,4 @@
-use Rattle.std.proofs.Common.{◌≡◌, ℕ, ◌<◌, ◌≤◌, true, length, get_or}
+use Rattle.std.proofs.Common.{◌≡◌, ℕ, ◌<◌, ◌≤◌, true, length}
 use Rattle.cs_prefilter.specs.Prefixes.{MayFollowAny, TestsByte}
 use Rattle.cs_prefilter.proofs.PrefixLemmas.{byte_of}
 use Rattle.cs_prefilter.proofs.prefix.Prefix.of.Given as goal

@@ -34,8 +34,7 @@ returns-then-occurs_at-clause-found c t =
 pub returns-then-occurs_at-clause-work : goal.returns-then-occurs_at-clause-work
 returns-then-occurs_at-clause-work c =
     let few : c.first_in-end.result ≤ c.first_in-first.result + 8 =
-    few_in_part c.len-len.result c.args.bucket _ _ (omega (arith, c.len-len.ensures, c.args.self.now.few)) c.first_in-first.ensures c.first_in-end.ensures in
-    (
+    few_in_part c.len-len.result c.args.bucket _ _ (omega (arith, c.len-len.ensures, c.args.self.now.few)) c.first_in-first.ensures c.first_in-end.ensures in (
       omega (arith, c.loop-i.invariant.rises, c.occurs_at.ensures.work.0),
       omega (arith, c.loop-i.invariant.work, c.occurs_at.ensures.work.1, c.loop-i-test.true, few),
     )

@@ -8,8 +8,9 @@ use Rattle.std.proofs.lemmas.List.Sums.{count_by-le-length}
 use Rattle.cs_syntax.specs.Matching.{Tree, member}
 use Rattle.cs_prefilter.specs.declared.word.Word.{Word}
 use Rattle.cs_prefilter.specs.declared.listing.Listed.{Listed}
-use Rattle.cs_prefilter.specs.WordAt.{WordAt, IsInLine, IsSufficient, IsPrefilterOf}
+use Rattle.cs_prefilter.specs.WordAt.{IsLine, MayBeAt, WordAt, IsInLine, IsSufficient, IsPrefilterOf, with_newline}
 use Rattle.cs_prefilter.specs.Listed.{EndsLineWithWord, TellsEnds, IsLineStart, IsListFrom}
+use Rattle.cs_prefilter.proofs.EdgeLemmas.{one_more, byte_in, byte_end}
 use Rattle.cs_match.specs.Deciding.{Decides}
 use Rattle.cs_match.specs.LastPart.{last_part}
 use Rattle.cs_match.specs.Lanes.{AreListed}
@@ -24,7 +25,7 @@ use Rattle.cs_match.proofs.LinesLemmas.{HasNoNewline-searched, length-terminated
 use Rattle.cs_match.proofs.ListingLemmas.{both, no_ends, line_alone}
 use Rattle.cs_match.proofs.MatchingEndLemmas.{ends-append, length-matching_ends}
 use Rattle.cs_match.proofs.PositionCountLemmas.{mul_both}
-use Rattle.cs_match.proofs.SkippedLineLemmas.{whole_to, whole_none}
+use Rattle.cs_match.proofs.SkippedLineLemmas.{AreBytes, bytes_drop, words_placed, whole_to, whole_none}
 use Rattle.cs_match.proofs.WholeLineLemmas.{rest_is_last, whole_from, whole_has_newline}
 
 -- where the line begins that an offset is in
@@ -92,45 +93,86 @@ module _ (text : List ℕ) (end : ℕ) (within : end < length text) (from : Line
   pub line_is : last_part (take end text) ≡ line
   line_is = sym (rest_is_last (take end text) from.start (whole_before from.start refl) no_newline)
 
+  pub is_line : AreBytes text → IsLine line
+  is_line bytes i = elim (cases_lt i (end - from.start)) [
+    | inl low ↦
+        let same = byte i (omega (arith, low)) in (
+          subst (λ b. b < 256) (sym same) (bytes (from.start + i)),
+          λ is. from.in_line (from.start + i) (omega arith) (omega (arith, low)) (sym same ∙ is),
+        )
+    | inr past ↦
+        let none : get_or line i 0 ≡ 0 = get_or_past line i 0 (omega (arith, past, long)) in (
+          subst (λ b. b < 256) (sym none) (omega arith),
+          λ is. absurd (omega (arith, is, none)),
+        )
+  ]
+
+  -- a byte of the line, or its newline
+  byte_to : get_or text end 0 ≡ newline → (k : ℕ) → from.start + k ≤ end → get_or (with_newline line) k 0 ≡ get_or text (from.start + k) 0
+  byte_to here k low = elim (cases_lt k (end - from.start)) [
+    | inl inside ↦ byte_in line k (omega (arith, inside, long)) ∙ byte k (omega (arith, inside))
+    | inr past ↦
+        let there : from.start + k ≡ end = omega (arith, past, low, from.low) in
+        byte_end line k (omega (arith, there, long)) ∙ sym here ∙ ap (λ n. get_or text n 0) (sym there)
+  ]
+
   -- a word in the line, and one that begins in it
-  pub to_text : (word : Word) (k : ℕ) → WordAt line k word → WordAt text (from.start + k) word
-  to_text word k occurs = record {
-    within = omega (arith, occurs.within, long, within);
+  pub to_text : get_or text end 0 ≡ newline → (word : Word) (k : ℕ) → WordAt (with_newline line) k word → WordAt text (from.start + k) word
+  to_text here word k occurs = record {
+    before = before k occurs.before (omega (arith, occurs.within, one_more line, long, from.low));
+    within = omega (arith, occurs.within, one_more line, long, within, from.low);
     each = λ i d low.
         let there : from.start + (k + i) ≡ from.start + k + i = omega arith in
-        ap (member (get_or word.sets.items i d)) (sym (byte (k + i) (omega (arith, low, occurs.within, long)) ∙ ap (λ n. get_or text n 0) there))
+        ap (member (get_or word.sets.items i d))
+        (sym (byte_to here (k + i) (omega (arith, low, occurs.within, one_more line, long, from.low)) ∙ ap (λ n. get_or text n 0) there))
         ∙ occurs.each i d low;
   }
+    where
+      before : (n : ℕ) → MayBeAt (with_newline line) n word → from.start + n ≤ end + 1 → MayBeAt text (from.start + n) word
+      before zero free low some =
+          let back : from.start + 0 - 1 ≡ from.start - 1 = omega arith in
+          ap (λ j. member word.before (get_or text j 0)) back ∙ ap (member word.before) (from.before (omega (arith, some))) ∙ word.begins
+      before (suc n) free low some =
+          let back : from.start + suc n - 1 ≡ from.start + n = omega arith in
+          let last : suc n - 1 ≡ n = omega arith in
+          ap (λ j. member word.before (get_or text j 0)) back
+          ∙ ap (member word.before) (sym (byte_to here n (omega (arith, low))))
+          ∙ ap (λ j. member word.before (get_or (with_newline line) j 0)) (sym last) ∙ free (omega arith)
 
-  -- a word before the end of the line, which contains no newline, is one of the line
+  -- a word that begins in the line or at its newline, and has the newline as its last byte at most, is one of the line
   pub in_text : get_or text end 0 ≡ newline → (word : Word) → IsInLine word → (at : ℕ) → from.start ≤ at → at ≤ end →
-      WordAt text at word → WordAt line (at - from.start) word
+      WordAt text at word → WordAt (with_newline line) (at - from.start) word
   in_text here word in_line at low high occurs =
       let there : (i : ℕ) → from.start + (at - from.start + i) ≡ at + i = λ i. omega (arith, low) in
       let fits = word_fits here word in_line at high occurs in
       record {
-        within = omega (arith, long, fits, low);
+        before = λ some.
+            let back : from.start + (at - from.start - 1) ≡ at - 1 = omega (arith, some) in
+            ap (member word.before) (byte_to here (at - from.start - 1) (omega (arith, some, high)) ∙ ap (λ n. get_or text n 0) back)
+            ∙ occurs.before (omega (arith, some));
+        within = omega (arith, long, one_more line, fits, low, high);
         each = λ i d below.
             ap (member (get_or word.sets.items i d))
-            (byte (at - from.start + i) (omega (arith, there i, fits, below)) ∙ ap (λ n. get_or text n 0) (there i))
+            (byte_to here (at - from.start + i) (omega (arith, there i, fits, below)) ∙ ap (λ n. get_or text n 0) (there i))
             ∙ occurs.each i d below;
       }
     where
       word_fits : get_or text end 0 ≡ newline → (word : Word) → IsInLine word → (at : ℕ) → at ≤ end → WordAt text at word →
-          at + length word.sets.items ≤ end
-      word_fits here word in_line at high occurs = elim (cases_lt end (at + length word.sets.items)) [
+          at + length word.sets.items ≤ end + 1
+      word_fits here word in_line at high occurs = elim (cases_lt (end + 1) (at + length word.sets.items)) [
         | inr fine ↦ omega arith
         | inl past ↦
             let i = end - at in
             let there : at + i ≡ end = omega arith in
             let is : get_or text (at + i) 0 ≡ newline = ap (λ n. get_or text n 0) there ∙ here in
-            let below : i < length word.sets.items = omega arith in
-            absurd (false≢true (sym (in_line i [] below) ∙ ap (member (get_or word.sets.items i [])) (sym is) ∙ occurs.each i [] below))
+            let below : i + 1 < length word.sets.items = omega arith in
+            absurd (false≢true (sym (in_line i [] below) ∙ ap (member (get_or word.sets.items i [])) (sym is)
+            ∙ occurs.each i [] (omega (arith, below))))
       ]
 
 -- the lines with a word of an exact prefilter are the matching lines
 module _ (tree : Tree) (prefilter : List Word × Bool) (is : IsPrefilterOf tree prefilter) (exact : prefilter.1 ≡ true)
-    (has_match : List ℕ → Bool) (decides : Decides has_match tree) (block : List ℕ) (from : ℕ) where
+    (has_match : List ℕ → Bool) (decides : Decides has_match tree) (block : List ℕ) (bytes : AreBytes block) (from : ℕ) where
   abbrev text : List ℕ
   text = drop from block
 
@@ -152,15 +194,18 @@ module _ (tree : Tree) (prefilter : List Word × Bool) (is : IsPrefilterOf tree 
       ] in
       let start = line_start text end in
       let same : last_part (take (from + end - from) text) ≡ drop start.start (take end text) = ap last_part (line_of end) ∙ line_is text end within start in
-      let word = is.required (drop start.start (take end text)) ((decides (drop start.start (take end text))).0 (ap has_match (sym same) ∙ flags.1)) in
-      let found = word.1 in
-      let low : start.start + word.0 ≤ end = omega (arith, found.4.within, long text end within start, start.low) in
+      let line = drop start.start (take end text) in
+      let word = is.required line (is_line text end within start (bytes_drop from block bytes)) ((decides line).0 (ap has_match (sym same) ∙ flags.1)) in
+      let size = one_more line in
+      let inside = (words_placed words).inside (with_newline line) word.0 (omega (arith, size)) word.1 in
+      let found = inside.2 in
+      let low : start.start + inside.0 ≤ end = omega (arith, inside.1, size, long text end within start, start.low) in
       record {
         here = here;
-        at = start.start + word.0;
+        at = start.start + inside.0;
         low = low;
         in_line = λ k high before. start.in_line k (omega (arith, high)) before;
-        occurs = (found.0, found.1, found.2, found.3, to_text text end within start found.1 word.0 found.4);
+        occurs = (found.0, found.1, found.2, found.3, to_text text end within start here found.1 inside.0 found.4);
       }
 
   is_match : (end : ℕ) → EndsLineWithWord words text end → is_matching_end has_match block from (from + end) ≡ true
@@ -178,7 +223,7 @@ module _ (tree : Tree) (prefilter : List Word × Bool) (is : IsPrefilterOf tree 
       let found = e.occurs in
       let sufficient : IsSufficient tree found.1 = subst (IsSufficient tree) found.3 (is.sufficient exact found.0 found.1 found.2) in
       let same : last_part (take (from + end - from) text) ≡ line = ap last_part (line_of end) ∙ line_is text end within start in
-      let matches = (decides line).1 (sufficient.found line (e.at - start.start)
+      let matches = (decides line).1 (sufficient.found line (e.at - start.start) (is_line text end within start (bytes_drop from block bytes))
       (in_text text end within start e.here found.1 sufficient.in_line e.at low e.low found.4)) in
       ap₂ (λ (b : ℕ) (l : List ℕ). nat_eq b newline && has_match l) (sym (get_or-drop from block end 0) ∙ e.here) same ∙ matches
 
@@ -187,7 +232,7 @@ module _ (tree : Tree) (prefilter : List Word × Bool) (is : IsPrefilterOf tree 
 
 -- the list of a prefilter, up to the start of a line behind which no line ends before the offset
 module _ (tree : Tree) (prefilter : List Word × Bool) (is : IsPrefilterOf tree prefilter) (exact : prefilter.1 ≡ true)
-    (block : List ℕ) (from : ℕ) (within : from ≤ length block) (listed : Listed) (ends : List ℕ) (low : from ≤ listed.to)
+    (block : List ℕ) (bytes : AreBytes block) (from : ℕ) (within : from ≤ length block) (listed : Listed) (ends : List ℕ) (low : from ≤ listed.to)
     (list : IsListFrom prefilter.0 block from listed ends) where
   pub list_high : listed.to ≤ length block
   list_high = omega (arith, list.high, length-drop from block, within, low)
@@ -200,7 +245,7 @@ module _ (tree : Tree) (prefilter : List Word × Bool) (is : IsPrefilterOf tree 
         let rest = take (listed.to - start) (drop start block) in
         let none : NoneMatch has_match (terminated_lines rest) =
         subst (NoneMatch has_match) (sym (terminated_lines-part rest part)) (All-nil (λ line. has_match line ≡ false)) in
-        list.listed (is_matching_end has_match block from) (tells_ends tree prefilter is exact has_match decides block from)
+        list.listed (is_matching_end has_match block from) (tells_ends tree prefilter is exact has_match decides block bytes from)
         ∙ ends-append has_match block from start listed.to lines.low order lines.whole
         ∙ ap (λ xs. matching_ends has_match block from start ++ xs) (no_ends has_match block start listed.to order list_high none)
         ∙ append-nil (matching_ends has_match block from start)
@@ -228,7 +273,7 @@ module _ (tree : Tree) (prefilter : List Word × Bool) (is : IsPrefilterOf tree 
   list_few =
       let decided = matching_is_decidable tree in
       let p = is_matching_end decided.0 block from in
-      let ends_is = list.listed p (tells_ends tree prefilter is exact decided.0 decided.1 block from) in
+      let ends_is = list.listed p (tells_ends tree prefilter is exact decided.0 decided.1 block bytes from) in
       omega (arith, length-take-le listed.count ends list.room, ap (λ (xs : List ℕ). length xs) ends_is, few p from (listed.to - from))
     where
       few : (p : ℕ → Bool) (a n : ℕ) → length (filter p (range_with_len a n)) ≤ n

@@ -1,14 +1,14 @@
 -- Lines that may be the first with a word of a prefilter.
 use Rattle.std.specs.Prelude.{ℕ, List, drop, slice_range, Option, Some, None, All}
 use Rattle.cs_prefilter.specs.declared.word.Word.{Word}
-use Rattle.cs_prefilter.specs.WordAt.{HasWord}
+use Rattle.cs_prefilter.specs.WordAt.{HasWord, with_newline}
 use Rattle.cs_match.specs.declared.matcher.Line.{Line}
 use Rattle.cs_match.specs.Lines.{terminated_lines}
 use Rattle.cs_match.specs.Skipping.{IsLineAfter}
 
--- none of the lines contains one of the words
+-- none of the lines, with its newline, contains one of the words
 abbrev pub LackWords : List Word → List (List ℕ) → Type 0
-LackWords words lines = All (λ line. ¬ HasWord words line) lines
+LackWords words lines = All (λ line. ¬ HasWord words (with_newline line)) lines
 
 -- a line of the block at or after `from`, such that none from there up to it contains a word
 pub record IsCandidateLine (words : List Word) (block : List ℕ) (from start end : ℕ) : Type 0 where

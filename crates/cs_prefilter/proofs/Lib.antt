@@ -1,5 +1,7 @@
 pub mod SpanLemmas
+pub mod EdgeLemmas
 mod RunLemmas
+mod SufficientLemmas
 mod BucketLemmas
 mod Examples
 mod LaneLemmas

@@ -50,3 +50,7 @@ module _ (s : List ℕ) where
 pub on_ok_both : {T E A B C : Type 0} (r : Result T E) → (A → B → C) → OnOk r A → OnOk r B → OnOk r C
 on_ok_both (Ok x) f a b = f a b
 on_ok_both (Err e) f a b = tt
+
+pub both_ok : {T E : Type 0} (A B : Type 0) (r : Result T E) → OnOk r A → OnOk r B → OnOk r (A × B)
+both_ok A B (Ok x) a b = (a, b)
+both_ok A B (Err e) a b = tt

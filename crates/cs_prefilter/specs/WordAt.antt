@@ -1,5 +1,5 @@
 -- Occurrences of words in a text, and the words that every matching line contains.
-use Rattle.std.specs.Prelude.{◌≡◌, ℕ, ◌+◌, ◌-◌, ◌<◌, ◌≤◌, ◌++◌, ◌∷◌, [], Bool, true, false, List, length, slice_index, slice_index_or, All, Any}
+use Rattle.std.specs.Prelude.{◌≡◌, ◌≢◌, ℕ, ◌+◌, ◌-◌, ◌<◌, ◌≤◌, ◌++◌, ◌∷◌, [], Bool, true, false, List, length, slice_index, slice_index_or, All, Any}
 use Rattle.cs_syntax.specs.Matching.{Tree, HasMatch, member}
 use Rattle.cs_prefilter.specs.declared.word.Word.{Word}
 
@@ -26,29 +26,27 @@ HasWord words text = (at : ℕ) × Any (WordAt text at) words
 abbrev pub with_newline : List ℕ → List ℕ
 with_newline line = line ++ 10 ∷ []
 
+-- a line: bytes other than the newline (`slice_index` is 0 past the end)
+abbrev pub IsLine : List ℕ → Type 0
+IsLine line = (i : ℕ) → (slice_index line i < 256) × (slice_index line i ≢ 10)
+
 -- every matching line contains one of the words; the last set of a word may be that of its newline
 abbrev pub AreRequired : Tree → List Word → Type 0
-AreRequired tree words = (line : List ℕ) → HasMatch tree line → HasWord words (with_newline line)
+AreRequired tree words = (line : List ℕ) → IsLine line → HasMatch tree line → HasWord words (with_newline line)
 
 -- no set of the word but the last contains a newline
 abbrev pub IsInLine : Word → Type 0
 IsInLine word = (i : ℕ) (d : List Bool) → i + 1 < length word.sets.items → member (slice_index_or word.sets.items i d) 10 ≡ false
 
--- where a line begins, the newline before it lets the word occur
-abbrev pub BeginsLines : Word → Type 0
-BeginsLines word = member word.before 10 ≡ true
-
 -- each line that contains the word has a match, and no set of the word but the last contains a newline
 pub record IsSufficient (tree : Tree) (word : Word) : Type 0 where
-  pub found : (line : List ℕ) (at : ℕ) → WordAt (with_newline line) at word → HasMatch tree line
+  pub found : (line : List ℕ) (at : ℕ) → IsLine line → WordAt (with_newline line) at word → HasMatch tree line
   pub in_line : IsInLine word
 
 abbrev pub AreSufficient : Tree → List Word → Type 0
 AreSufficient tree words = All (IsSufficient tree) words
 
--- every matching line contains one of the words, each of which may occur where a line begins; and each line that contains
--- one has a match, if the flag is set
+-- every matching line contains one of the words; and each line that contains one has a match, if the flag is set
 pub record IsPrefilterOf (tree : Tree) (prefilter : List Word × Bool) : Type 0 where
   pub required : AreRequired tree prefilter.0
-  pub begins : All BeginsLines prefilter.0
   pub sufficient : prefilter.1 ≡ true → AreSufficient tree prefilter.0

@@ -41,7 +41,9 @@
 
 mod buckets;
 mod byte_test;
+mod collecting;
 mod comparing;
+mod edges;
 mod lanes;
 mod listing;
 mod masks;

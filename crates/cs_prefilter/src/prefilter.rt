@@ -1,7 +1,7 @@
 // The prefilter: a search for candidates, then verification.
 ghost use Rattle.std.specs.Prelude.{◌≡◌, ◌≢◌, ◌≤◌, ◌<◌, ◌↔◌, ◌+◌, ◌*◌, ◌-◌, true, false, ℕ, List, length, slice_index, vec_len, Any, IfOk, IfSome, IsTrue};
 ghost use Rattle.cs_syntax.specs.Node.{tree_of};
-ghost use Rattle.cs_prefilter.specs.WordAt.{AreSufficient, HasWord, IsPrefilterOf, NoWordFrom, WordAt};
+ghost use Rattle.cs_prefilter.specs.WordAt.{AreSufficient, HasWord, IsPrefilterOf, NoWordFrom, WordAt, with_newline};
 ghost use Rattle.cs_prefilter.specs.Listed.{IsFull, IsListFrom, IsLineStart};
 ghost use Rattle.cs_prefilter.specs.OffsetWork.{most_words, word_work, list_work, offset_work};
 ghost use Rattle.cs_prefilter.specs.CountsAtMost.{CountsAtMost};
@@ -78,7 +78,7 @@ impl Prefilter {
         words: Option<Words>,
     ) -> Result<Option<Prefilter>, AllocError>
         ensures required { IfOk result (λ prefilter. (line : List ℕ) → HasWordOf line words →
-            IfSome prefilter (λ p. HasWord p.0 line)) }
+            IfSome prefilter (λ p. HasWord p.0 (with_newline line))) }
         ensures sufficient { IfOk result (λ prefilter. IfSome prefilter (λ p.
             p.1 ≡ true → AreSufficient (tree_of root.now) p.0)) }
     {

@@ -4,6 +4,7 @@ ghost use Rattle.std.specs.Prelude.{ℕ, ◌≤◌, List, IfOk, OnOk, length};
 ghost use Rattle.cs_syntax.specs.Matching.{MatchesSpan, MatchesSequence, MatchesBranch};
 ghost use Rattle.cs_syntax.specs.Node.{tree_of};
 ghost use Rattle.cs_syntax.specs.NodeList.{trees_of};
+ghost use Rattle.cs_prefilter.specs.WordAt.{IsLine};
 ghost use Rattle.cs_prefilter.specs.Words.{HasWordOf};
 ghost use Rattle.cs_prefilter.specs.Runs.{RunsFollow};
 
@@ -16,7 +17,7 @@ use std::alloc::{AllocError, Global};
 /// The best words of the tree for this kind of search.
 #[cycle(gather)]
 pub(crate) fn best(alloc: Global, kind: Kind, node: &Node) -> Result<Option<Words>, AllocError>
-    ensures { IfOk result (λ words. (line : List ℕ) (i j : ℕ) → i ≤ length line →
+    ensures { IfOk result (λ words. (line : List ℕ) (i j : ℕ) → IsLine line → i ≤ length line →
         MatchesSpan line (tree_of node.now) i j → HasWordOf line words) }
 {
     let mut runs = Runs::new(alloc, kind);
@@ -32,9 +33,14 @@ fn gather(alloc: Global, kind: Kind, node: &Node, runs: &mut Runs) -> Result<(),
         (RunsFollow (λ line i j. MatchesSpan line (tree_of node.now) i j) runs.old runs.new) }
 {
     match node {
-        Node::Empty | Node::LineStart | Node::LineEnd | Node::WordEdge | Node::NotWordEdge => Ok(
-            (),
-        ),
+        Node::Empty => Ok(()),
+        Node::NotWordEdge => Ok(()),
+        Node::LineStart => {
+            runs.add_line_start();
+            Ok(())
+        }
+        Node::LineEnd => runs.add_line_end(),
+        Node::WordEdge => runs.add_word_edge(),
         Node::Set(set) => runs.add(set),
         Node::Cat(parts) => gather_all(alloc, kind, parts, runs),
         Node::Alt(branches) => {
@@ -43,6 +49,7 @@ fn gather(alloc: Global, kind: Kind, node: &Node, runs: &mut Runs) -> Result<(),
             runs.cut_here()
         }
         Node::Rep(x, least, _) if *least > 0 => {
+            runs.begin_repeat();
             let start = runs.sets.len();
             gather(alloc, kind, x, runs)?;
             runs.cut(start)
@@ -66,7 +73,7 @@ fn gather_all(alloc: Global, kind: Kind, parts: &[Node], runs: &mut Runs) -> Res
 /// The best words of all branches, if each branch has some and they are not too many.
 #[cycle(gather)]
 fn best_of_each(alloc: Global, kind: Kind, branches: &[Node]) -> Result<Option<Words>, AllocError>
-    ensures { IfOk result (λ words. (line : List ℕ) (i j : ℕ) → i ≤ length line →
+    ensures { IfOk result (λ words. (line : List ℕ) (i j : ℕ) → IsLine line → i ≤ length line →
         MatchesBranch line (trees_of branches.now) i j → HasWordOf line words) }
 {
     let mut all = Words::none(alloc);

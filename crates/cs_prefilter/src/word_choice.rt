@@ -1,7 +1,9 @@
 // The words of a run, and of several branches together.
-ghost use Rattle.std.specs.Prelude.{◌≡◌, ◌≤◌, ◌+◌, ◌++◌, ◌∷◌, ℕ, List, IfOk, OnOk, [], vec_len};
+ghost use Rattle.std.specs.Prelude.{◌≡◌, ◌≤◌, ◌<◌, ◌+◌, ◌++◌, ◌∷◌, ℕ, List, IfOk, IfSome, OnOk, [], true, vec_len};
+ghost use Rattle.cs_syntax.specs.Matching.{member};
+ghost use Rattle.cs_syntax.specs.ByteSet.{all_bytes};
 ghost use Rattle.cs_prefilter.specs.OffsetWork.{most_words};
-ghost use Rattle.cs_prefilter.specs.Words.{SetsEndAt, HasWordOf};
+ghost use Rattle.cs_prefilter.specs.Words.{RunEndsAt};
 ghost use Rattle.cs_prefilter.specs.WordAt.{HasWord};
 
 use crate::rarity::{MOST_SETS, Part, rarest_part};
@@ -30,9 +32,11 @@ impl Words {
         run: &[ByteSet],
         frequencies: &[u64],
         most: u64,
+        before: &ByteSet,
     ) -> Result<Option<Words>, AllocError>
-        ensures { IfOk result (λ words. (line : List ℕ) (j : ℕ) →
-            SetsEndAt line run.now j → HasWordOf line words) }
+        requires { member before.now 10 ≡ true }
+        ensures { IfOk result (λ words. (text : List ℕ) (j : ℕ) →
+            RunEndsAt text before.now run.now j → IfSome words (λ some. HasWord some.words.items text)) }
     {
         let Some(part) = rarest_part(kind, run, frequencies) else {
             return Ok(None);
@@ -41,7 +45,7 @@ impl Words {
             return Ok(None);
         }
         let mut words = Words::none(alloc);
-        words.words.push(word_of(alloc, run, part)?)?;
+        words.words.push(word_of(alloc, run, part, before)?)?;
         words.share = part.share;
         Ok(Some(words))
     }
@@ -60,16 +64,28 @@ impl Words {
 }
 
 /// The word that is the part of the run, up to the most sets of a word.
-fn word_of(alloc: Global, run: &[ByteSet], part: Part) -> Result<Word, AllocError>
-    ensures { IfOk result (λ word. (line : List ℕ) (j : ℕ) →
-        SetsEndAt line run.now j → HasWord (word ∷ []) line) }
+fn word_of(alloc: Global, run: &[ByteSet], part: Part, before: &ByteSet) -> Result<Word, AllocError>
+    requires { member before.now 10 ≡ true }
+    ensures { IfOk result (λ word. (text : List ℕ) (j : ℕ) →
+        RunEndsAt text before.now run.now j → HasWord (word ∷ []) text) }
 {
     let from = part.from.min(run.len());
     let len = MOST_SETS.min(run.len() - from);
     let mut sets = Vec::new(alloc);
     sets.extend_from_slice(&run[from..from + len])?;
-    Ok(Word {
-        before: ByteSet::all(),
-        sets,
-    })
+    let before = before_part(before, from);
+    Ok(Word { before, sets })
+}
+
+/// The set of the byte before the part of a run from this index on.
+fn before_part(before: &ByteSet, from: usize) -> ByteSet
+    requires { member before.now 10 ≡ true }
+    ensures begins { member result 10 ≡ true }
+    ensures first { from ≡ 0 → result ≡ before.now }
+    ensures later { 0 < from → result ≡ all_bytes }
+{
+    if from == 0 {
+        return *before;
+    }
+    ByteSet::all()
 }

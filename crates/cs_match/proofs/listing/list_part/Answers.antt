@@ -8,6 +8,7 @@ use Rattle.cs_match.specs.Work.{byte_work, list_work, searched_bytes}
 use Rattle.cs_match.specs.declared.one_lane.ListedLines.{ListedLines}
 use Rattle.cs_match.proofs.CandidateLemmas.{no_candidate, before_candidate}
 use Rattle.cs_match.proofs.ListingLemmas.{AreListed-skipped, line_alone, ListsLines-skipped}
+use Rattle.cs_match.proofs.SkippedLineLemmas.{AreBytes}
 use Rattle.cs_match.proofs.SearchWorkLemmas.{candidate_cost, skipped_cost}
 use Rattle.cs_match.proofs.WordEndLemmas.{whole_ends, list_high, list_lines, list_few, words_cost}
 use Rattle.cs_match.proofs.listing.list_part.Goals as goal
@@ -29,13 +30,14 @@ finish_list-requires-clause-listed g c =
     subst (λ s. IfSome s (λ prefilter. IsPrefilterOf tree prefilter.now)) c.in-Some.ensures.is c.requires.prefilter in
     let exact : prefilter.1 ≡ true = sym c.is_exact.ensures ∙ c.if-is_exact.true in
     let within : c.args.from ≤ length c.args.block.now = omega (arith, c.requires.within) in
+    let bytes : AreBytes c.args.block.now = λ i. omega (arith, c.type_inv.block i) in
     let e = c.list-listed.ensures in
     let long = c.list-listed.auto.ends in
     record {
       moves = e.moves c.requires.within;
-      high = list_high tree prefilter is exact c.args.block.now c.args.from within c.list-listed.result c.list-listed.new.ends e.low e.ends;
+      high = list_high tree prefilter is exact c.args.block.now bytes c.args.from within c.list-listed.result c.list-listed.new.ends e.low e.ends;
       room = e.ends.room;
-      listed = list_lines tree prefilter is exact c.args.block.now c.args.from within c.list-listed.result c.list-listed.new.ends e.low e.ends;
+      listed = list_lines tree prefilter is exact c.args.block.now bytes c.args.from within c.list-listed.result c.list-listed.new.ends e.low e.ends;
       full = λ all. e.stops (omega (arith, all, long));
     }
 
@@ -46,10 +48,11 @@ returns-then-is_exact-clause-work g c =
     let is : IsPrefilterOf tree prefilter =
     subst (λ s. IfSome s (λ prefilter. IsPrefilterOf tree prefilter.now)) c.in-Some.ensures.is c.requires.prefilter in
     let exact : prefilter.1 ≡ true = sym c.is_exact.ensures ∙ c.if-is_exact.true in
+    let bytes : AreBytes c.args.block.now = λ i. omega (arith, c.type_inv.block i) in
     let e = c.list-listed.ensures in
     let f = c.finish_list.ensures in
     let words = c.list-listed.result in
-    let few = list_few tree prefilter is exact c.args.block.now c.args.from (omega (arith, c.requires.within)) words c.list-listed.new.ends e.low e.ends in
+    let few = list_few tree prefilter is exact c.args.block.now bytes c.args.from (omega (arith, c.requires.within)) words c.list-listed.new.ends e.low e.ends in
     let moves = e.moves c.requires.within in
     let cost = words_cost (words.to - c.args.from) (c.finish_list.result.to - c.args.from) words.count (byte_work tree)
     (omega (arith, moves)) (omega (arith, f.all)) few in (
@@ -71,10 +74,10 @@ returns-clause-lists g c =
           subst (λ (listed : ListedLines). ListsLines tree block c.args.from listed c.match-candidate.ends) (sym w.listed-is)
           (subst (λ (ends : List ℕ). ListsLines tree block c.args.from w.list_line-listed.result ends) (sym w.ends-is)
           (ListsLines-skipped tree block c.args.from line.start w.list_line-listed.result w.list_line-listed.new.ends
-          (before_candidate tree words block c.args.from line.start line.end is.required e) (omega (arith, e.line.order, e.line.high))
+          (before_candidate tree words block c.args.from line.start line.end (λ i. omega (arith, c.type_inv.block i)) is.required e) (omega (arith, e.line.order, e.line.high))
           w.list_line-listed.ensures.lists))
       | in-None w ↦
-          let skipped = no_candidate tree words block c.args.from (omega (arith, c.requires.within)) c.requires.whole is.required
+          let skipped = no_candidate tree words block c.args.from (λ i. omega (arith, c.type_inv.block i)) (omega (arith, c.requires.within)) c.requires.whole is.required
           (subst (λ line. IsCandidate words block c.args.from line) w.in-None.is c.next_candidate-candidate.ensures.candidate) in
           subst (λ (listed : ListedLines). ListsLines tree block c.args.from listed c.match-candidate.ends) (sym w.listed-is) (record {
             listed = AreListed-skipped tree block c.args.from (length block) c.match-candidate.ends skipped;

@@ -1,7 +1,7 @@
 use Rattle.std.proofs.Common.{ℕ, ◌≤◌, ◌⊎◌, List, length, drop}
 use Rattle.cs_syntax.specs.Matching.{MatchesSequence, MatchesBranch}
 use Rattle.cs_syntax.specs.NodeList.{trees_of}
-use Rattle.cs_prefilter.specs.WordAt.{HasWord}
+use Rattle.cs_prefilter.specs.WordAt.{IsLine, HasWord, with_newline}
 use Rattle.cs_prefilter.specs.Runs.{RunsFollow}
 use Rattle.cs_prefilter.specs.declared.runs.Runs.{Runs}
 use Rattle.cs_prefilter.proofs.required.+gather.Given as goal
@@ -13,5 +13,5 @@ invariant-gather_all-loop-part l =
 
 abbrev pub invariant-best_of_each-loop-branch : goal.invariant-best_of_each-loop-branch
 invariant-best_of_each-loop-branch l =
-    (line : List ℕ) (i j : ℕ) → i ≤ length line → MatchesBranch line (trees_of l.branches) i j →
-    HasWord l.all.words.items line ⊎ MatchesBranch line (trees_of (drop l.branch-index l.branches)) i j
+    (line : List ℕ) (i j : ℕ) → IsLine line → i ≤ length line → MatchesBranch line (trees_of l.branches) i j →
+    HasWord l.all.words.items (with_newline line) ⊎ MatchesBranch line (trees_of (drop l.branch-index l.branches)) i j

@@ -1,7 +1,7 @@
 use Rattle.std.proofs.Common.{List, sym, subst, ◌∙◌}
 use Rattle.cs_syntax.specs.Node.{tree_of}
 use Rattle.cs_prefilter.specs.declared.word.Word.{Word}
-use Rattle.cs_prefilter.specs.WordAt.{AreSufficient, HasWord}
+use Rattle.cs_prefilter.specs.WordAt.{AreSufficient, HasWord, with_newline}
 use Rattle.std.specs.Prelude.{Option}
 use Rattle.cs_prefilter.specs.declared.words.Words.{Words}
 use Rattle.cs_prefilter.specs.Words.{HasWordOf}
@@ -14,5 +14,5 @@ returns-clause-sufficient c = λ exact.
 
 pub returns-clause-required : goal.returns-clause-required
 returns-clause-required c = λ line has.
-    subst (λ (words : List Word). HasWord words line) (λ i. (sym c.in_ok-of.ensures i).items)
+    subst (λ (words : List Word). HasWord words (with_newline line)) (λ i. (sym c.in_ok-of.ensures i).items)
     (subst (λ (w : Option Words). HasWordOf line w) c.in-Some.is has)

@@ -4,8 +4,8 @@ use Rattle.cs_prefilter.specs.WordAt.{HasWord}
 use Rattle.cs_prefilter.proofs.words.Words.of_run.Goals as goal
 
 pub returns : goal.returns
-returns c = λ line j e.
+returns c = λ text j e.
     let word = c.in_ok-word_of.field-0 in
     let one : word ∷ [] ≡ c.push.new.self.items = ap (λ (words : List Word). words ++ word ∷ [])
     (sym c.none-words.ensures) ∙ sym c.in_ok-push.ensures.items in
-    subst (λ (words : List Word). HasWord words line) one (c.in_ok-word_of.ensures line j e)
+    subst (λ (words : List Word). HasWord words text) one (c.in_ok-word_of.ensures text j e)

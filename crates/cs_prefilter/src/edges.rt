@@ -30,6 +30,9 @@ pub(crate) fn other_bytes() -> ByteSet
 pub(crate) fn without_newline(set: &ByteSet) -> ByteSet
     ensures { (b : ℕ) → b < 256 → member result b ≡ (member set.now b && not (nat_eq b 10)) }
 {
+    if !set.contains(b'\n') {
+        return *set;
+    }
     ByteSet::of(|b| set.contains(b as u8) && b != 10)
 }
 

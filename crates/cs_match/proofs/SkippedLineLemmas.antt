@@ -20,7 +20,7 @@ pub record IsPlaced (Occurs : List ℕ → ℕ → Type 0) : Type 0 where
 
 pub words_placed : (words : List Word) → IsPlaced (λ text k. Any (WordAt text k) words)
 words_placed words = record {
-  inside = λ text k some h. let w = word_inside text k h.1 some h.4 in (w.0, w.1, h.0, h.1, h.2, h.3, w.2);
+  inside = λ text k some h. let w = word_inside text k h.1 some h.4 in (w.0, w.1, (h.0, h.1, h.2, h.3, w.2));
   prefix = λ line rest k h. (h.0, h.1, h.2, h.3, word_prefix line rest k h.1 h.4);
   later = λ before text k h. (h.0, h.1, h.2, h.3, word_later before text k h.1 h.4);
 }

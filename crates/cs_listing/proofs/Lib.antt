@@ -23,3 +23,5 @@ pub mod VisitLemmas
 pub mod StepLemmas
 pub mod WeightLemmas
 pub mod BeginLemmas
+pub mod WholeWalkLemmas
+pub mod SettingLemmas

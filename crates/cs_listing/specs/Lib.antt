@@ -16,7 +16,10 @@ pub mod Listing
 pub mod Models
 pub mod FolderReads
 pub mod Entries
+pub mod UserRules
 pub mod Walk
+pub mod WholeWalks
 -- Definitions that only private contracts cite.
 pub mod Matching
 pub mod Reading
+pub mod SettingReads

@@ -283,7 +283,7 @@ impl FolderReader {
     }
 
     /// The bytes of a file. What cannot be read is noted.
-    fn read<T: Look>(&mut self, tree: &mut T, path: &str) -> Result<Vec<u8>, AllocError>
+    pub(crate) fn read<T: Look>(&mut self, tree: &mut T, path: &str) -> Result<Vec<u8>, AllocError>
         ensures bytes { IfOk result (λ bytes. InTree (T.snapshot tree.old)
             (λ items. bytes.items ≡ bytes_of_item (items path.now))) }
         ensures keeps { T.snapshot tree.new ≡ T.snapshot tree.old }

@@ -1,6 +1,7 @@
 // Laws of the definitions. These functions do nothing.
 ghost use Rattle.cs_listing.specs.Listing.{ListsAsBelow};
 ghost use Rattle.cs_listing.specs.Walk.{GivesInOrder};
+ghost use Rattle.cs_listing.specs.WholeWalks.{WalksList};
 
 /// Below a folder that it enters, a search lists what a search of that folder lists.
 pub fn lists_as_below()
@@ -11,4 +12,10 @@ pub fn lists_as_below()
 /// left at its beginning.
 pub fn gives_in_order()
     ensures { GivesInOrder }
+{}
+
+/// A walk that has begun at a folder gives the files that a search of the folder lists, each once,
+/// and no other ones.
+pub fn walks_list()
+    ensures { WalksList }
 {}

@@ -2,7 +2,9 @@
 //! `specs/Globs.antt`, `specs/Rules.antt` and `specs/Layers.antt` first: the rules of one file, and
 //! what the rule files of all folders along a path say together; then `specs/RuleFiles.antt`: how
 //! the bytes of a rule file are read. `specs/Listing.antt` says which files of a tree a search of a
-//! folder lists, and `specs/Walk.antt` what the walk gives that finds them.
+//! folder lists, `specs/Walk.antt` what the walk gives that finds them, call by call, and
+//! `specs/WholeWalks.antt` what it gives from its beginning to its end. `specs/UserRules.antt` says
+//! which rules a user has for all repositories.
 //!
 //! A *glob* is a list of elements, one for each name of a path, or `**` for any number of folders;
 //! an element is a list of tokens; the token `*` takes any bytes. A rule without a slash begins
@@ -52,6 +54,7 @@ mod paths;
 mod rule_lines;
 mod rules;
 mod types;
+mod user_settings;
 mod walk;
 mod whole_files;
 
@@ -61,4 +64,5 @@ pub use layers::{FolderRules, Layers};
 pub use paths::path_names;
 pub use rules::{Decision, Rules};
 pub use types::TYPES;
+pub use user_settings::{UserRules, user_rules};
 pub use walk::{File, Found, Walk};

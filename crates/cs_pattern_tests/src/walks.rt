@@ -1,6 +1,8 @@
 // Which files a walk of a project gives, over trees in memory.
 use cs_fakes::{Item, MemTree};
-use cs_listing::{Choices, File, Found, ListFault, Rules, Unread, Walk, path_names};
+use cs_listing::{
+    Choices, File, Found, ListFault, Rules, Unread, UserRules, Walk, path_names, user_rules,
+};
 use cs_tree::{Look, TreeFault};
 use std::alloc::Global;
 use std::test::Fail;
@@ -215,5 +217,43 @@ fn unread_paths_are_given_once(rt: HostRuntime) -> Result<(), Fail> {
     let found = walk.next(&mut tree)?;
     assert_eq!(rt; fault_of(&found), Some(ListFault::Tree(TreeFault::Denied)));
     assert_eq!(rt; walk.next(&mut tree)?.is_none(), true);
+    Ok(())
+}
+
+#[test]
+fn user_rules_are_those_of_the_named_file(rt: HostRuntime) -> Result<(), Fail> {
+    let alloc = rt.alloc();
+    let items = [
+        ("/h/", ""),
+        ("/h/.config/", ""),
+        ("/h/.config/git/", ""),
+        ("/h/.config/git/ignore", "*.a\n"),
+        ("/h/own ignore", "*.b\n"),
+        ("/r/", ""),
+        ("/r/.git/", ""),
+        ("/r/x.a", ""),
+        ("/r/x.b", ""),
+    ];
+    for (settings, want) in [
+        ("[user]\n\texcludesFile = /h/own ignore\n", "/r/x.b\n"),
+        ("[Core]\n\tExcludesFile = \"~/own ignore\" ; mine\n", "/r/x.a\n"),
+        ("[core] excludesfile=~/own ignore \r\n[x]\nexcludesFile=y\n", "/r/x.a\n"),
+        (
+            "[core]\nexcludesFile = /h/none\nexcludesFile = /h/own\" ig\"nore#\n",
+            "/r/x.a\n",
+        ),
+        ("[core]\nexcludesFile = /h/none\n", "/r/x.a\n/r/x.b\n"),
+    ] {
+        let mut tree = tree_of(alloc, &items)?;
+        tree.put(
+            "/h/.gitconfig",
+            Item::File(settings.as_bytes().to_vec(alloc)?),
+        )?;
+        let UserRules { rules, unread } = user_rules(alloc, &mut tree, "/h", "/h/.config")?;
+        assert_eq!(rt; unread.len(), 0);
+        let choices = Choices::new(alloc, rules, Vec::new(alloc));
+        let got = listed(alloc, &mut tree, &choices, "/r")?;
+        assert_eq!(rt; got.as_str(), want, "with {settings}");
+    }
     Ok(())
 }

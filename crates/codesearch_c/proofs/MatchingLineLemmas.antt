@@ -1,5 +1,5 @@
 -- Matching lines, from one to the next.
-use Rattle.std.proofs.Common.{◌≡◌, ℕ, zero, suc, ◌+◌, ◌-◌, ◌<◌, ◌≤◌, Bool, true, false, cond, nat_eq, List, [], ◌∷◌, ◌++◌, length, take, drop, set, refl, sym, ap, subst, ◌∙◌, arith, append-nil, append_assoc, length-append, length-drop, count_by, IsTrue}
+use Rattle.std.proofs.Common.{◌≡◌, ℕ, suc, ◌+◌, ◌-◌, ◌<◌, ◌≤◌, Bool, true, false, cond, nat_eq, List, [], ◌∷◌, ◌++◌, length, take, drop, set, refl, sym, ap, subst, ◌∙◌, arith, append-nil, append_assoc, length-append, length-drop, count_by, IsTrue}
 use Rattle.std.specs.List.{AllByRecursion}
 use Rattle.std.proofs.lemmas.List.{drop-drop, drop_all, drop-append-le, take-append-drop, take_rest, length-take-le}
 use Rattle.std.proofs.lemmas.List.Elements.{recursion_from_All}
@@ -215,6 +215,15 @@ module _ (t : List ℕ → Bool) (block : List ℕ) (old : List LineBounds) wher
         listed.number ∙ fill_one listed.found old line;
   }
 
+  pub listed_on : (new : List LineBounds) (count from to : ℕ) → AreListedTo t block old new count from →
+      matching_lines t block from ≡ matching_lines t block to → AreListedTo t block old new count to
+  listed_on new count from to listed same = record {
+    found = listed.found;
+    all = listed.all ∙ ap (λ ls. listed.found ++ ls) same;
+    number = listed.number;
+    filled = listed.filled;
+  }
+
   pub listed_all : (new : List LineBounds) (count offset : ℕ) → AreListedTo t block old new count offset →
       matching_lines t block offset ≡ [] → (count ≡ length (matching_lines t block 0)) ×
       (new ≡ filled_with (matching_lines t block 0) old)
@@ -242,17 +251,6 @@ module _ (t : List ℕ → Bool) (block : List ℕ) (whole : ℕ) (within : whol
       subst (λ text. matching_lines t text from ≡ matching_lines t text whole) (take-append-drop whole block)
       (next_none t (take whole block) (drop whole block) from (omega arith) lines none
       ∙ ap (matching_lines t (take whole block ++ drop whole block)) size)
-
--- the rest of a part
-pub part_from : (block : List ℕ) (whole from : ℕ) → whole ≤ from → HasNoNewline (drop whole block) → HasNoNewline (drop from block)
-part_from block whole from low part =
-    let at : whole + (from - whole) ≡ from = omega arith in
-    subst HasNoNewline (drop-drop (from - whole) whole block ∙ ap (λ n. drop n block) at) (part_drop (from - whole) (drop whole block) part)
-  where
-    part_drop : (n : ℕ) (text : List ℕ) → HasNoNewline text → HasNoNewline (drop n text)
-    part_drop zero text p = p
-    part_drop (suc n) [] p = tt
-    part_drop (suc n) (b ∷ text) p = part_drop n text p.1
 
 -- a test that is not passed
 pub not_passed : (b : Bool) → (IsTrue b → ⊥) → b ≡ false

@@ -6,6 +6,7 @@ use Rattle.cs_syntax.specs.Parsing.{ParsesAs}
 use Rattle.cs_syntax.specs.ParseErrors.{IsParseError}
 use Rattle.cs_syntax.specs.declared.fault.PatternError.{PatternError}
 use Rattle.codesearch_c.specs.declared.held.Held.{Held}
+use Rattle.codesearch_c.specs.declared.slot.Slot.{Slot}
 use Rattle.codesearch_c.specs.Compiled.{Compiled}
 use Rattle.cs_match.specs.Lines.{lines}
 use Rattle.cs_trigram.specs.QueryOf.{IsQueryOf}
@@ -40,6 +41,12 @@ IsMisuse old new code = (code ≡ misuse) × (new ≡ old)
 -- the slot still holds this pattern
 abbrev pub Keeps : Compiled → Option Held → Type 0
 Keeps held slot = OnPattern slot (false ≡ true) (λ kept. kept ≡ held)
+
+-- a slot keeps its pattern, by which the call is answered; or it has none, the call is a misuse, and what else is given stays
+abbrev pub IsAnswered : Slot → Slot → ℤ → Type 0 → (Compiled → Type 0) → Type 0
+IsAnswered old new code AreSame IsAnswer =
+    OnPattern old.handle.value (IsMisuse old.handle.value new.handle.value code × AreSame)
+    (λ held. IsAnswer held × Keeps held new.handle.value)
 
 -- 1 and a match, 0 and none, or memory is refused
 pub record IsMatchCode (pattern : Tree) (line : List ℕ) (code : ℤ) : Type 0 where

@@ -1,14 +1,16 @@
 // Lines of a block, whose last line may have no newline.
-ghost use Rattle.std.specs.Prelude.{◌≡◌, ◌≤◌, ◌<◌, IfSome, MatchOption, length, take, drop, slice_set, count_by};
+ghost use Rattle.std.specs.Prelude.{◌≡◌, ◌≤◌, ◌<◌, ◌++◌, ℕ, List, IfSome, MatchOption, length, drop, slice_set, count_by};
 ghost use Rattle.cs_match.specs.Lines.{lines};
 ghost use Rattle.cs_match.specs.NoNewline.{HasNoNewline};
+ghost use Rattle.cs_match.specs.MatchingEnds.{matching_ends};
 ghost use Rattle.cs_match.specs.Skipped.{AreLinesBetween};
-ghost use Rattle.cs_match.specs.Skipping.{AreWholeLines};
-ghost use Rattle.codesearch_c.specs.MatchingLines.{ForEachTest, IsFirstLine, IsListing};
+ghost use Rattle.codesearch_c.specs.declared.lines.LineBounds.{LineBounds};
+ghost use Rattle.codesearch_c.specs.MatchingLines.{ForEachTest, IsFirstLine, IsListing, AreListedTo};
 ghost use Rattle.codesearch_c.specs.Budgets.{IsLineFrom};
 
-use cs_match::{Matcher, whole_lines_len};
+use cs_match::{Matcher, line_to, whole_lines_len};
 use memchr::memchr;
+use std::ops::Range;
 
 /// A line of a block: its bytes, without the newline, are those from `start` to `end`.
 #[repr(C)]
@@ -61,33 +63,6 @@ fn part_end(block: &[u8], start: usize) -> Option<usize>
     }
 }
 
-/// The first matching line from an offset on in a block whose first `whole` bytes are its whole
-/// lines.
-fn line_from(
-    matcher: &mut Matcher<'_>,
-    block: &[u8],
-    whole: usize,
-    from: usize,
-) -> Option<LineBounds>
-    requires within { whole ≤ length block.now }
-    requires whole { AreWholeLines (take whole block.now) }
-    requires rest { HasNoNewline (drop whole block.now) }
-    ensures found { IsFirstLine matcher.old.tree block.now from result }
-    ensures order { IfSome result (λ line. (from ≤ line.end) × (line.end ≤ length block.now)) }
-    ensures same { matcher.new.tree ≡ matcher.old.tree }
-{
-    if from >= whole {
-        return last_line(matcher, block, from);
-    }
-    match matcher.next_match(&block[..whole], from) {
-        Some(line) => Some(LineBounds {
-            start: line.start,
-            end: line.end,
-        }),
-        None => last_line(matcher, block, whole),
-    }
-}
-
 /// The line without a newline from an offset on, if it matches.
 fn last_line(matcher: &mut Matcher<'_>, block: &[u8], from: usize) -> Option<LineBounds>
     requires part { HasNoNewline (drop from block.now) }
@@ -115,12 +90,55 @@ pub(crate) fn list_lines(matcher: &mut Matcher<'_>, block: &[u8], lines: &mut [L
     ensures same { matcher.new.tree ≡ matcher.old.tree }
 {
     let whole = whole_lines_len(block);
+    let text = &block[..whole];
     let mut count = 0;
     let mut offset = 0;
-    'lines: while let Some(line) = line_from(matcher, block, whole, offset) {
-        offset = line.end + 1;
-        put_line(lines, count, line);
+    'lists: while offset < whole {
+        let to = matcher.list_lines(text, offset);
+        count = put_listed(matcher, text, offset..to, lines, count);
+        offset = to;
+    }
+    match last_line(matcher, block, whole) {
+        Some(line) => {
+            put_line(lines, count, line);
+            count + 1
+        }
+        None => count,
+    }
+}
+
+/// Writes the matching lines between two offsets of a text, which the matcher has listed, after
+/// `count` others. Returns the number of both.
+fn put_listed(
+    matcher: &Matcher<'_>,
+    text: &[u8],
+    part: Range<usize>,
+    lines: &mut [LineBounds],
+    mut count: usize,
+) -> usize
+    requires lines { AreLinesBetween text.now part.start part.end }
+    requires ends { ForEachTest matcher.now.tree (λ has_match.
+        matcher.now.ends ≡ matching_ends has_match text.now part.start part.end) }
+    requires fewer { count ≤ part.start }
+    ensures listed { ForEachTest matcher.now.tree (λ has_match.
+        (rest : List ℕ) → (old : List LineBounds) →
+        AreListedTo has_match (text.now ++ rest) old lines.old count part.start →
+        AreListedTo has_match (text.now ++ rest) old lines.new result part.end) }
+    ensures fewer { result ≤ part.end }
+{
+    let mut offset = part.start;
+    for end in matcher.listed() {
+        let line = line_to(text, offset, *end);
+        put_line(
+            lines,
+            count,
+            LineBounds {
+                start: line.start,
+                end: line.end,
+            },
+        );
         count += 1;
+        offset = line.end + 1;
     }
     count
 }

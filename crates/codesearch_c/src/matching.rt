@@ -5,7 +5,7 @@ ghost use Rattle.cs_trigram.specs.QueryOf.{IsQueryOf};
 ghost use Rattle.cs_index.specs.Opening.{opening};
 ghost use Rattle.codesearch_c.specs.Codes.{done};
 ghost use Rattle.codesearch_c.specs.Slots.{is_filled, OnPattern};
-ghost use Rattle.codesearch_c.specs.Patterns.{IsRefusal, IsCompiled, IsMisuse, IsMatchCode, IsNextCode, IsLinesCode, IsCountCode, IsCandidatesCode, IsPageCode, Keeps};
+ghost use Rattle.codesearch_c.specs.Patterns.{IsRefusal, IsCompiled, IsMisuse, IsMatchCode, IsNextCode, IsLinesCode, IsCountCode, IsCandidatesCode, IsPageCode, Keeps, IsAnswered};
 
 use crate::codes::{MEMORY, MISUSE, NOT_UTF8, OK, pattern_code};
 use crate::held::{Held, HeldPattern};
@@ -133,10 +133,8 @@ pub extern "C" fn cs_pattern_next(
     from: usize,
     line: &mut LineBounds,
 ) -> i32
-    ensures { OnPattern slot.old.handle.value
-        (IsMisuse slot.old.handle.value slot.new.handle.value result × (line.new ≡ line.old))
-        (λ held. IsNextCode held.pattern block.now from line.old line.new result
-        × Keeps held slot.new.handle.value) }
+    ensures { IsAnswered slot.old slot.new result (line.new ≡ line.old)
+        (λ held. IsNextCode held.pattern block.now from line.old line.new result) }
 {
     let Some(mut held) = slot.take(alloc) else {
         return MISUSE;
@@ -158,11 +156,8 @@ pub extern "C" fn cs_pattern_lines(
     lines: &mut [LineBounds],
     count: &mut usize,
 ) -> i32
-    ensures { OnPattern slot.old.handle.value
-        (IsMisuse slot.old.handle.value slot.new.handle.value result
-        × (lines.new ≡ lines.old) × (count.new ≡ count.old))
-        (λ held. IsLinesCode held.pattern block.now lines.old lines.new count.old count.new result
-        × Keeps held slot.new.handle.value) }
+    ensures { IsAnswered slot.old slot.new result ((lines.new ≡ lines.old) × (count.new ≡ count.old))
+        (λ held. IsLinesCode held.pattern block.now lines.old lines.new count.old count.new result) }
 {
     let Some(mut held) = slot.take(alloc) else {
         return MISUSE;
@@ -183,10 +178,8 @@ pub extern "C" fn cs_pattern_count(
     block: &[u8],
     count: &mut u64,
 ) -> i32
-    ensures { OnPattern slot.old.handle.value
-        (IsMisuse slot.old.handle.value slot.new.handle.value result × (count.new ≡ count.old))
-        (λ held. IsCountCode held.pattern block.now count.old count.new result
-        × Keeps held slot.new.handle.value) }
+    ensures { IsAnswered slot.old slot.new result (count.new ≡ count.old)
+        (λ held. IsCountCode held.pattern block.now count.old count.new result) }
 {
     let Some(mut held) = slot.take(alloc) else {
         return MISUSE;
@@ -209,12 +202,9 @@ pub extern "C" fn cs_pattern_candidates(
     count: &mut usize,
 ) -> i32
     requires opened { IsOk (opening index.now) }
-    ensures { OnPattern slot.old.handle.value
-        (IsMisuse slot.old.handle.value slot.new.handle.value result
-        × (ids.new ≡ ids.old) × (count.new ≡ count.old))
+    ensures { IsAnswered slot.old slot.new result ((ids.new ≡ ids.old) × (count.new ≡ count.old))
         (λ held. IfOk (opening index.now) (λ parts.
-        IsCandidatesCode parts held.query ids.old ids.new count.old count.new result)
-        × Keeps held slot.new.handle.value) }
+        IsCandidatesCode parts held.query ids.old ids.new count.old count.new result)) }
 {
     let Some(held) = slot.take(alloc) else {
         return MISUSE;
@@ -238,12 +228,9 @@ pub extern "C" fn cs_pattern_candidates_from(
     count: &mut usize,
 ) -> i32
     requires opened { IsOk (opening index.now) }
-    ensures { OnPattern slot.old.handle.value
-        (IsMisuse slot.old.handle.value slot.new.handle.value result
-        × (ids.new ≡ ids.old) × (count.new ≡ count.old))
+    ensures { IsAnswered slot.old slot.new result ((ids.new ≡ ids.old) × (count.new ≡ count.old))
         (λ held. IfOk (opening index.now) (λ parts.
-        IsPageCode parts held.query from ids.old ids.new count.old count.new result)
-        × Keeps held slot.new.handle.value) }
+        IsPageCode parts held.query from ids.old ids.new count.old count.new result)) }
 {
     let Some(held) = slot.take(alloc) else {
         return MISUSE;

@@ -1,8 +1,7 @@
 // The export that prints what cgrep prints for a text.
 ghost use Rattle.std.specs.Prelude.{◌≡◌};
-ghost use Rattle.codesearch_c.specs.Patterns.{IsMisuse, Keeps};
+ghost use Rattle.codesearch_c.specs.Patterns.{IsAnswered};
 ghost use Rattle.codesearch_c.specs.Reports.{style_of, IsReportCode};
-ghost use Rattle.codesearch_c.specs.Slots.{OnPattern};
 
 use crate::codes::MISUSE;
 use crate::held::Held;
@@ -21,11 +20,9 @@ pub extern "C" fn cs_grep(
     out: &mut [u8],
     len: &mut usize,
 ) -> i32
-    ensures { OnPattern slot.old.handle.value
-        (IsMisuse slot.old.handle.value slot.new.handle.value result
-        × (out.new ≡ out.old) × (len.new ≡ len.old))
-        (λ held. IsReportCode held.pattern name.now text.now style out.old out.new len.old len.new
-        result × Keeps held slot.new.handle.value) }
+    ensures { IsAnswered slot.old slot.new result ((out.new ≡ out.old) × (len.new ≡ len.old))
+        (λ held. IsReportCode held.pattern name.now text.now style out.old out.new
+        len.old len.new result) }
 {
     let Some(mut held) = slot.take(alloc) else {
         return MISUSE;

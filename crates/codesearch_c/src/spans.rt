@@ -1,8 +1,7 @@
 // Exports that say where in a line a pattern matches.
 ghost use Rattle.std.specs.Prelude.{◌≡◌, ◌+◌, true, false, nat_eq, count_by};
 ghost use Rattle.cs_match.specs.Lines.{newline};
-ghost use Rattle.codesearch_c.specs.Slots.{OnPattern};
-ghost use Rattle.codesearch_c.specs.Patterns.{IsMisuse, Keeps};
+ghost use Rattle.codesearch_c.specs.Patterns.{IsAnswered};
 ghost use Rattle.codesearch_c.specs.Spans.{IsSpanCode, IsSpansCode, IsNewlinesCode};
 
 use crate::codes::{MISUSE, OK};
@@ -21,10 +20,8 @@ pub extern "C" fn cs_pattern_find(
     from: usize,
     span: &mut Span,
 ) -> i32
-    ensures { OnPattern slot.old.handle.value
-        (IsMisuse slot.old.handle.value slot.new.handle.value result × (span.new ≡ span.old))
-        (λ held. IsSpanCode false held.pattern line.now from from span.old span.new result
-        × Keeps held slot.new.handle.value) }
+    ensures { IsAnswered slot.old slot.new result (span.new ≡ span.old)
+        (λ held. IsSpanCode false held.pattern line.now from from span.old span.new result) }
 {
     let Some(mut held) = slot.take(alloc) else {
         return MISUSE;
@@ -51,11 +48,9 @@ pub extern "C" fn cs_pattern_find_after(
     last: &Span,
     span: &mut Span,
 ) -> i32
-    ensures { OnPattern slot.old.handle.value
-        (IsMisuse slot.old.handle.value slot.new.handle.value result × (span.new ≡ span.old))
+    ensures { IsAnswered slot.old slot.new result (span.new ≡ span.old)
         (λ held. IsSpanCode false held.pattern line.now last.now.end (last.now.end + 1)
-        span.old span.new result
-        × Keeps held slot.new.handle.value) }
+        span.old span.new result) }
 {
     let Some(mut held) = slot.take(alloc) else {
         return MISUSE;
@@ -78,11 +73,8 @@ pub extern "C" fn cs_pattern_spans(
     spans: &mut [Span],
     count: &mut usize,
 ) -> i32
-    ensures { OnPattern slot.old.handle.value
-        (IsMisuse slot.old.handle.value slot.new.handle.value result
-        × (spans.new ≡ spans.old) × (count.new ≡ count.old))
-        (λ held. IsSpansCode false held.pattern line.now spans.old spans.new count.new result
-        × Keeps held slot.new.handle.value) }
+    ensures { IsAnswered slot.old slot.new result ((spans.new ≡ spans.old) × (count.new ≡ count.old))
+        (λ held. IsSpansCode false held.pattern line.now spans.old spans.new count.new result) }
 {
     let Some(mut held) = slot.take(alloc) else {
         return MISUSE;
@@ -108,10 +100,8 @@ pub extern "C" fn cs_pattern_find_word(
     from: usize,
     span: &mut Span,
 ) -> i32
-    ensures { OnPattern slot.old.handle.value
-        (IsMisuse slot.old.handle.value slot.new.handle.value result × (span.new ≡ span.old))
-        (λ held. IsSpanCode true held.pattern line.now from from span.old span.new result
-        × Keeps held slot.new.handle.value) }
+    ensures { IsAnswered slot.old slot.new result (span.new ≡ span.old)
+        (λ held. IsSpanCode true held.pattern line.now from from span.old span.new result) }
 {
     let Some(mut held) = slot.take(alloc) else {
         return MISUSE;
@@ -139,11 +129,9 @@ pub extern "C" fn cs_pattern_find_word_after(
     last: &Span,
     span: &mut Span,
 ) -> i32
-    ensures { OnPattern slot.old.handle.value
-        (IsMisuse slot.old.handle.value slot.new.handle.value result × (span.new ≡ span.old))
+    ensures { IsAnswered slot.old slot.new result (span.new ≡ span.old)
         (λ held. IsSpanCode true held.pattern line.now last.now.end (last.now.end + 1)
-        span.old span.new result
-        × Keeps held slot.new.handle.value) }
+        span.old span.new result) }
 {
     let Some(mut held) = slot.take(alloc) else {
         return MISUSE;
@@ -167,11 +155,8 @@ pub extern "C" fn cs_pattern_word_spans(
     spans: &mut [Span],
     count: &mut usize,
 ) -> i32
-    ensures { OnPattern slot.old.handle.value
-        (IsMisuse slot.old.handle.value slot.new.handle.value result
-        × (spans.new ≡ spans.old) × (count.new ≡ count.old))
-        (λ held. IsSpansCode true held.pattern line.now spans.old spans.new count.new result
-        × Keeps held slot.new.handle.value) }
+    ensures { IsAnswered slot.old slot.new result ((spans.new ≡ spans.old) × (count.new ≡ count.old))
+        (λ held. IsSpansCode true held.pattern line.now spans.old spans.new count.new result) }
 {
     let Some(mut held) = slot.take(alloc) else {
         return MISUSE;

@@ -1,7 +1,6 @@
 // Exports that search a block within a budget of bytes.
 ghost use Rattle.std.specs.Prelude.{◌≡◌};
-ghost use Rattle.codesearch_c.specs.Slots.{OnPattern};
-ghost use Rattle.codesearch_c.specs.Patterns.{IsMisuse, Keeps};
+ghost use Rattle.codesearch_c.specs.Patterns.{IsAnswered};
 ghost use Rattle.codesearch_c.specs.Budgets.{budget_of, IsNextWithinCode, IsCountWithinCode};
 
 use crate::budgets::Budget;
@@ -23,11 +22,9 @@ pub extern "C" fn cs_pattern_next_within(
     line: &mut LineBounds,
     reached: &mut usize,
 ) -> i32
-    ensures { OnPattern slot.old.handle.value
-        (IsMisuse slot.old.handle.value slot.new.handle.value result
-        × (line.new ≡ line.old) × (reached.new ≡ reached.old))
-        (λ held. IsNextWithinCode held.pattern block.now (budget_of from bytes) line.old line.new
-        reached.old reached.new result × Keeps held slot.new.handle.value) }
+    ensures { IsAnswered slot.old slot.new result ((line.new ≡ line.old) × (reached.new ≡ reached.old))
+        (λ held. IsNextWithinCode held.pattern block.now (budget_of from bytes)
+        line.old line.new reached.old reached.new result) }
 {
     let Some(mut held) = slot.take(alloc) else {
         return MISUSE;
@@ -52,11 +49,9 @@ pub extern "C" fn cs_pattern_count_within(
     count: &mut u64,
     reached: &mut usize,
 ) -> i32
-    ensures { OnPattern slot.old.handle.value
-        (IsMisuse slot.old.handle.value slot.new.handle.value result
-        × (count.new ≡ count.old) × (reached.new ≡ reached.old))
-        (λ held. IsCountWithinCode held.pattern block.now (budget_of from bytes) count.old count.new
-        reached.old reached.new result × Keeps held slot.new.handle.value) }
+    ensures { IsAnswered slot.old slot.new result ((count.new ≡ count.old) × (reached.new ≡ reached.old))
+        (λ held. IsCountWithinCode held.pattern block.now (budget_of from bytes)
+        count.old count.new reached.old reached.new result) }
 {
     let Some(mut held) = slot.take(alloc) else {
         return MISUSE;

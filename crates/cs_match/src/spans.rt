@@ -8,6 +8,7 @@ ghost use Rattle.cs_match.specs.SpanWork.{SearchesWithin, ListsWithin};
 
 mod around;
 mod pass;
+mod word;
 
 use crate::glushkov::Scratch;
 use crate::position_set::PositionSet;
@@ -17,6 +18,7 @@ use cs_syntax::Unfinished;
 pub use pass::{Pass, Wanted};
 use std::alloc::{AllocError, Global};
 use std::marker::Model;
+pub(crate) use word::is_one_word;
 
 /// A part of a line: its bytes from `start` to `end`.
 #[repr(C)]

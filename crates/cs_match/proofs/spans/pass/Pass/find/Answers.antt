@@ -37,6 +37,10 @@ returns-clause-found c =
       longest = λ j m. c.in_ok-end.ensures.last j (match_from whole t s from least start start j (omega arith) m);
     }
 
+pub returns-then-is_short_word-clause-read : goal.returns-then-is_short_word-clause-read
+returns-then-is_short_word-clause-read c = λ k few.
+    search_one c.args.program.now (length c.args.line.now) k _ _ _ c.find_word.ensures.read
+
 pub returns-in-Some-clause-read : goal.returns-in-Some-clause-read
 returns-in-Some-clause-read c = λ k few.
     search_two c.args.program.now (length c.args.line.now) k _ _ _ c.in_ok-first.ensures.read c.in-Some.ensures.read

@@ -25,8 +25,8 @@ use cs_syntax::{CharStep, Cuts, Node, Pattern, Unfinished};
 use std::alloc::{AllocError, Global};
 use std::marker::Model;
 
-/// The most sets of a word that is searched for without the automaton. A step of the automaton takes
-/// as long as so many sets at most.
+/// The most sets of a word that is searched for without the automaton, one step of which takes about
+/// as long as so many sets.
 const MOST_SETS: usize = 64;
 
 /// A compiled pattern. Contracts see it as its expanded tree, which has a match in the same lines
@@ -106,7 +106,8 @@ impl Program {
         let repeats = count_repeats(&root);
         let look_behind = look_behind(&root);
         let is_anchored = is_anchored(&root);
-        let is_short_word = positions.len() <= MOST_SETS && is_one_word(&root);
+        let is_word = is_one_word(&root);
+        let is_short_word = is_word & (positions.len() <= MOST_SETS);
         let byte_classes = ByteClasses::of_tree(&root, look_behind, &cuts);
         Ok(Program {
             root,

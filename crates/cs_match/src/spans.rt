@@ -1,5 +1,6 @@
 // Where in a line a match is: the leftmost one, and of those that begin there the longest. Passes
-// of the automaton find it (`pass`).
+// of the automaton find it (`pass`), or, if the program is one word, the bytes are compared with it
+// (`word`).
 ghost use Rattle.std.specs.Prelude.{◌≡◌, ◌≤◌, ◌+◌, IfOk, MatchOption, length, true, false};
 ghost use Rattle.cs_match.specs.Passes.{IsPassOf};
 ghost use Rattle.cs_match.specs.Span.{IsFirstOf, HasNoMatchOf, IsFirstSpan, HasNoMatchFrom};

@@ -1,6 +1,6 @@
 use Rattle.std.proofs.Common.{◌+◌, length, arith}
 use Rattle.cs_match.proofs.SpanLemmas.{match_from}
-use Rattle.cs_match.proofs.SpanWorkLemmas.{search_none, search_one, search_two, search_all}
+use Rattle.cs_match.proofs.SpanWorkLemmas.{search_one, search_two, search_all}
 use Rattle.cs_match.proofs.spans.pass.Pass.find.Goals as goal
 
 pub returns-in-Some-clause-found : goal.returns-in-Some-clause-found

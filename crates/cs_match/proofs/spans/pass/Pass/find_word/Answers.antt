@@ -1,10 +1,8 @@
-use Rattle.std.proofs.Common.{◌≡◌, ◌+◌, ◌-◌, ◌≤◌, ◌∙◌, ℕ, List, length, max, true, refl, sym, ap, subst, arith}
+use Rattle.std.proofs.Common.{◌≡◌, ◌+◌, ◌-◌, ◌∙◌, length, max, true, sym, ap, subst, arith}
 use Rattle.std.proofs.Math.Nat.{max-le, le-max_left, le-max_right}
 use Rattle.std.proofs.lemmas.Bool.{false≢true}
-use Rattle.cs_match.specs.declared.position.Position.{Position}
 use Rattle.cs_match.specs.Glushkov.{position_count}
 use Rattle.cs_match.specs.OneWord.{OccursAt}
-use Rattle.cs_match.specs.Passes.{HasRead}
 use Rattle.cs_match.specs.Span.{IsFirstOf, IsWholeWord}
 use Rattle.cs_match.specs.SpanSearch.{BeginFrom}
 use Rattle.cs_match.proofs.OneWordLemmas.{Stands, may_begin_at, next_begins, none_begins_after, first_stands}

@@ -25,8 +25,8 @@ use cs_syntax::{CharStep, Cuts, Node, Pattern, Unfinished};
 use std::alloc::{AllocError, Global};
 use std::marker::Model;
 
-/// The most sets of a word that is searched for without the automaton, one step of which takes about
-/// as long as so many sets.
+/// The most sets of a word that is searched for without the automaton. To compare the bytes with so
+/// many sets takes about as long as a step of the automaton.
 const MOST_SETS: usize = 64;
 
 /// A compiled pattern. Contracts see it as its expanded tree, which has a match in the same lines

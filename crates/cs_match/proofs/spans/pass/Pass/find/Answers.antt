@@ -39,7 +39,7 @@ returns-clause-found c =
 
 pub returns-then-is_short_word-clause-read : goal.returns-then-is_short_word-clause-read
 returns-then-is_short_word-clause-read c = λ k few.
-    search_one c.args.program.now (length c.args.line.now) k _ _ _ c.find_word.ensures.read
+    search_one c.args.program.now (length c.args.line.now) k _ _ c.args.self.now c.find_word.ensures.read
 
 pub returns-in-Some-clause-read : goal.returns-in-Some-clause-read
 returns-in-Some-clause-read c = λ k few.

@@ -74,8 +74,7 @@ module _ (s : List ℕ) where
         let both = and_parts (is_one_word t) (are_one_word ts) e in
         let first = span_occurs t both.0 i m.0 m.1 in
         let rest = spans_occur ts both.1 m.0 j m.2 in
-        let at : m.0 ≡ i + length (position_list t) = omega (arith, first.1, length-position_list t) in
-        (
+        let at : m.0 ≡ i + length (position_list t) = omega (arith, first.1, length-position_list t) in (
           occurs_both (position_list t) (position_list_of ts) i first.0 (subst (OccursAt s (position_list_of ts)) at rest.0),
           omega (arith, first.1, rest.1),
         )

@@ -8,9 +8,9 @@ ghost use Rattle.cs_match.specs.Passes.{IsPassOf, HasRead};
 ghost use Rattle.cs_match.specs.Span.{IsFirstOf, HasNoMatchOf, IsWholeWord};
 ghost use Rattle.cs_match.specs.SpanWork.{pass_bytes};
 
+use super::Span;
 use super::around::{is_word_after, is_word_before};
 use super::pass::{Pass, Wanted};
-use super::Span;
 use crate::position::Position;
 use crate::program::Program;
 use cs_syntax::Node;

@@ -17,7 +17,7 @@ returns-then-not-has_byte c = (
   λ e. absurd (false≢true e),
   λ o.
       let from = occurs_next c.args.line.now c.args.word.now c.args.offset c.loop-index.index c.index-word-index.result
-          c.loop-index-test.true c.index-word-index.is (c.loop-index.invariant.1 o) in
+      c.loop-index-test.true c.index-word-index.is (c.loop-index.invariant.1 o) in
       absurd (false≢true (sym c.if-not-has_byte.true ∙ c.has_byte.ensures ∙ from.1)),
 )
 
@@ -27,8 +27,7 @@ loop-index-preserved c =
     let word = c.args.word.now in
     let i = c.loop-index.index in
     let p = c.index-word-index.result in
-    let given = c.loop-index.invariant in
-    (
+    let given = c.loop-index.invariant in (
       λ o. given.0 (occurs_here s word c.args.offset i p c.loop-index-test.true c.index-word-index.is
           (omega (arith, c.requires, c.loop-index-test.true), sym c.has_byte.ensures ∙ c.if-not-has_byte.false, o)),
       λ o. (occurs_next s word c.args.offset i p c.loop-index-test.true c.index-word-index.is (given.1 o)).2,

@@ -76,13 +76,13 @@ offsets-preserved c =
     let count = c.positions-word.ensures.count in
     let end : start + position_count t ≡ start + length c.positions-word.result.now = omega (arith, count) in
     let none : Stands whole t s from least c.requires.word start → ⊥ = λ stands.
-        let occurs = c.occurs.ensures.1 (subst (λ ps. OccursAt s ps start) (sym c.positions-word.ensures.list) stands.0) in
-        elim c.else-occurs.branch [
-          | else-occurs-via-then-occurs+else-may_stand w ↦
-              let word = w.may_stand.ensures.1 (λ e. subst (IsWholeWord s start) end (stands.1 e)) in
-              false≢true (sym w.if-may_stand.false ∙ word)
-          | else-occurs-via-else-occurs w ↦ false≢true (sym w.if-occurs.false ∙ occurs)
-        ] in
+    let occurs = c.occurs.ensures.1 (subst (λ ps. OccursAt s ps start) (sym c.positions-word.ensures.list) stands.0) in
+    elim c.else-occurs.branch [
+      | else-occurs-via-then-occurs+else-may_stand w ↦
+          let word = w.may_stand.ensures.1 (λ e. subst (IsWholeWord s start) end (stands.1 e)) in
+          false≢true (sym w.if-may_stand.false ∙ word)
+      | else-occurs-via-else-occurs w ↦ false≢true (sym w.if-occurs.false ∙ occurs)
+    ] in
     record {
       ready = given.ready;
       begins = omega (arith, given.begins);

@@ -4,6 +4,8 @@ use Rattle.std.specs.Prelude.{None, slice_index, replicate, ◌++◌}
 use mathlib.Core.Bool.{xor}
 use Rattle.std.proofs.lemmas.Bool.{cases_eq, false≢true}
 use Rattle.cs_syntax.specs.Matching.{Tree, MatchesSpan, Chain, member, one_of, cat, alt, rep, none, more, word_edge, line_start, line_end, word_before, word_after, is_at_word_boundary}
+use Rattle.cs_match.specs.Entered.{position_list}
+use Rattle.cs_match.specs.OneWord.{is_one_word, OccursAt}
 use Rattle.cs_match.specs.Passes.{ends_in}
 use Rattle.cs_match.specs.Span.{IsWholeWord, IsFirstOf, IsFirstSpan, AreSpans}
 
@@ -40,6 +42,17 @@ longest_branch = record {
   leftmost = λ i j m. m.begins;
   longest = λ j m. m.within;
 }
+
+-- a sequence of sets is one word, and branches and repeats are none
+abbrev word_ab : Tree
+word_ab = cat (more letter_a (more letter_b none))
+
+sequence_is_one_word : (is_one_word word_ab ≡ true) × (is_one_word branches ≡ false) × (is_one_word (rep letter_a 0 None) ≡ false)
+sequence_is_one_word = (refl, refl, refl)
+
+-- `ab` occurs at offset 1 of `aab`, and not at 0
+occurs_once : OccursAt aab (position_list word_ab) 1 × (OccursAt aab (position_list word_ab) 0 → ⊥)
+occurs_once = ((omega arith, refl, (omega arith, refl, tt)), λ o. false≢true o.2.1)
 
 -- `x*` on `axxb`, where `a`, `x` and `b` are the bytes 0, 1 and 2
 abbrev letter_x : Tree

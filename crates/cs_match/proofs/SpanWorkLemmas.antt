@@ -1,8 +1,7 @@
 -- The work of passes.
-use Rattle.std.proofs.Common.{◌≡◌, ℕ, zero, suc, ◌+◌, ◌-◌, ◌*◌, ◌^◌, ◌<◌, ◌≤◌, refl, sym, ap, ◌∙◌, subst, arith}
+use Rattle.std.proofs.Common.{◌≡◌, ℕ, zero, suc, ◌+◌, ◌-◌, ◌*◌, ◌^◌, ◌<◌, ◌≤◌, ap, arith}
 use Rattle.cs_syntax.specs.Matching.{Tree}
-use Rattle.cs_match.specs.Glushkov.{position_count}
-use Rattle.cs_match.specs.Work.{words, step_work}
+use Rattle.cs_match.specs.Work.{words}
 use Rattle.cs_match.specs.Passes.{HasRead}
 use Rattle.cs_match.specs.SpanList.{finding_of}
 use Rattle.cs_match.specs.SpanWork.{ReadsAtMost, pass_work, pass_bytes, find_bytes}

@@ -83,7 +83,9 @@
 //! second, in which a match may begin there only, finds the last end, and usually there is one.
 //! Otherwise the least start is searched for by bisection, each step a pass over the part that is
 //! left, and a last pass from that start finds the end. A pass accepts exactly where a match ends
-//! that begins in its part (`specs/Passes.antt`).
+//! that begins in its part (`specs/Passes.antt`). A program that is a sequence of at most 64 byte
+//! sets needs no pass: its matches are the places where each byte is in its set
+//! (`specs/OneWord.antt`).
 #![tactic(auto)]
 
 mod byte_classes;

@@ -1,5 +1,5 @@
 // Programs: compiled patterns.
-ghost use Rattle.std.specs.Prelude.{◌≡◌, ◌≤◌, ◌<◌, ◌^◌, IfOk, IfSome, length};
+ghost use Rattle.std.specs.Prelude.{◌≡◌, ◌≤◌, ◌<◌, ◌^◌, IfOk, IfSome, IsTrue, length, true};
 ghost use Rattle.cs_syntax.specs.Node.{tree_of};
 ghost use Rattle.cs_syntax.specs.Cuts.{AreCutsOf};
 ghost use Rattle.cs_match.specs.SameLines.{MatchSameLines, MatchSameSpans};
@@ -7,6 +7,7 @@ ghost use Rattle.cs_match.specs.Glushkov.{position_count, repeats, char_step_of,
 ghost use Rattle.cs_prefilter.specs.WordAt.{IsPrefilterOf};
 ghost use Rattle.cs_match.specs.LookBehind.{look_behind};
 ghost use Rattle.cs_match.specs.Anchored.{is_anchored};
+ghost use Rattle.cs_match.specs.OneWord.{is_one_word};
 ghost use Rattle.cs_match.specs.ByteClasses.{AreClasses};
 ghost use Rattle.cs_match.specs.Parts.{HaveSameShape, shape_of, size_of};
 ghost use Rattle.cs_match.specs.Entered.{position_list};
@@ -18,10 +19,15 @@ use crate::glushkov::count_repeats;
 use crate::look_around::{LookBehind, is_anchored, look_behind};
 use crate::parts::{Part, part_of};
 use crate::position::{Position, positions_of};
+use crate::spans::is_one_word;
 use cs_prefilter::Prefilter;
 use cs_syntax::{CharStep, Cuts, Node, Pattern, Unfinished};
 use std::alloc::{AllocError, Global};
 use std::marker::Model;
+
+/// The most sets of a word that is searched for without the automaton. To compare the bytes with so
+/// many sets takes about as long as a step of the automaton.
+const MOST_SETS: usize = 64;
 
 /// A compiled pattern. Contracts see it as its expanded tree, which has a match in the same lines
 /// as the pattern.
@@ -39,6 +45,8 @@ pub struct Program {
     look_behind: LookBehind,
     /// Each match begins at the start of the line.
     is_anchored: bool,
+    /// The tree is one word, and a short one.
+    is_short_word: bool,
     /// The byte classes of the tree.
     byte_classes: ByteClasses,
     /// The cuts of the sets of characters.
@@ -65,6 +73,7 @@ impl Model for Program {
     ghost use Rattle.cs_match.specs.Size.{nodes};
     ghost use Rattle.cs_match.specs.Entered.{position_list};
     ghost use Rattle.cs_match.specs.Anchored.{IsAnchorFlag};
+    ghost use Rattle.cs_match.specs.OneWord.{IsWordFlag};
 
     ghost view = { λ program. tree_of program.root };
 
@@ -75,7 +84,8 @@ impl Model for Program {
         × (program.positions.items ≡ position_list (tree_of program.root))
         × AreClasses (tree_of program.root) program.byte_classes
         × AreCutsOf (tree_of program.root) program.cuts
-        × IsAnchorFlag (tree_of program.root) program.is_anchored };
+        × IsAnchorFlag (tree_of program.root) program.is_anchored
+        × IsWordFlag (tree_of program.root) program.is_short_word };
 }
 
 impl Program {
@@ -96,6 +106,8 @@ impl Program {
         let repeats = count_repeats(&root);
         let look_behind = look_behind(&root);
         let is_anchored = is_anchored(&root);
+        let is_word = is_one_word(&root);
+        let is_short_word = is_word & (positions.len() <= MOST_SETS);
         let byte_classes = ByteClasses::of_tree(&root, look_behind, &cuts);
         Ok(Program {
             root,
@@ -104,6 +116,7 @@ impl Program {
             repeats,
             look_behind,
             is_anchored,
+            is_short_word,
             byte_classes,
             cuts,
             prefilter,
@@ -146,6 +159,13 @@ impl Program {
         ensures { result ≡ is_anchored self.now }
     {
         self.is_anchored
+    }
+
+    /// Whether the tree is one word, and a short one.
+    pub(crate) fn is_short_word(&self) -> bool
+        ensures { IsTrue result → is_one_word self.now ≡ true }
+    {
+        self.is_short_word
     }
 
     /// The byte classes of the tree.

@@ -1,5 +1,6 @@
 // Where in a line a match is: the leftmost one, and of those that begin there the longest. Passes
-// of the automaton find it (`pass`).
+// of the automaton find it (`pass`), or, if the program is one word, the bytes are compared with it
+// (`word`).
 ghost use Rattle.std.specs.Prelude.{◌≡◌, ◌≤◌, ◌+◌, IfOk, MatchOption, length, true, false};
 ghost use Rattle.cs_match.specs.Passes.{IsPassOf};
 ghost use Rattle.cs_match.specs.Span.{IsFirstOf, HasNoMatchOf, IsFirstSpan, HasNoMatchFrom};
@@ -8,6 +9,7 @@ ghost use Rattle.cs_match.specs.SpanWork.{SearchesWithin, ListsWithin};
 
 mod around;
 mod pass;
+mod word;
 
 use crate::glushkov::Scratch;
 use crate::position_set::PositionSet;
@@ -17,6 +19,7 @@ use cs_syntax::Unfinished;
 pub use pass::{Pass, Wanted};
 use std::alloc::{AllocError, Global};
 use std::marker::Model;
+pub(crate) use word::is_one_word;
 
 /// A part of a line: its bytes from `start` to `end`.
 #[repr(C)]

@@ -119,6 +119,9 @@ impl Pass {
         if line.len() < wanted.least {
             return None;
         }
+        if program.is_short_word() {
+            return self.find_word(program, line, wanted);
+        }
         let all = Part {
             whole: wanted.whole,
             from: wanted.from,

@@ -1,4 +1,6 @@
 use Rattle.std.proofs.Common.{◌≡◌, ◌↔◌, sym, ◌∙◌, ap, subst, arith}
+use Rattle.std.proofs.Math.Dec.{leb}
+use Rattle.std.proofs.lemmas.Bool.{and_parts}
 use Rattle.cs_syntax.specs.Matching.{Tree, MatchesSpan, HasMatch}
 use Rattle.cs_syntax.specs.Node.{tree_of}
 use Rattle.cs_match.specs.Glushkov.{IsExpanded}
@@ -23,6 +25,7 @@ invariant_of-result c = (
   c.of_tree-byte_classes.ensures,
   c.in_ok-part.ensures.cuts,
   c.is_anchored-is_anchored.ensures,
+  λ e. sym c.is_one_word-is_word.ensures ∙ (and_parts c.is_one_word-is_word.result (leb c.len.result 64) e).0,
 )
 
 pub returns-clause-alike : goal.returns-clause-alike

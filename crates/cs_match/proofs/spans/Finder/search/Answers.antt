@@ -1,5 +1,5 @@
-use Rattle.std.proofs.Common.{length, subst}
-use Rattle.cs_match.specs.SpanWork.{find_bytes, SearchesWithin, Finding}
+use Rattle.std.proofs.Common.{length}
+use Rattle.cs_match.specs.SpanWork.{find_bytes}
 use Rattle.cs_match.proofs.SpanWorkLemmas.{counted}
 use Rattle.cs_match.proofs.spans.Finder.search.Goals as goal
 

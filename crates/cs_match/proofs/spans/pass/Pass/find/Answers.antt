@@ -1,6 +1,6 @@
 use Rattle.std.proofs.Common.{◌+◌, length, arith}
 use Rattle.cs_match.proofs.SpanLemmas.{match_from}
-use Rattle.cs_match.proofs.SpanWorkLemmas.{search_none, search_one, search_two, search_all}
+use Rattle.cs_match.proofs.SpanWorkLemmas.{search_one, search_two, search_all}
 use Rattle.cs_match.proofs.spans.pass.Pass.find.Goals as goal
 
 pub returns-in-Some-clause-found : goal.returns-in-Some-clause-found
@@ -36,6 +36,10 @@ returns-clause-found c =
           lowest i j (match_from whole t s from least (since + 1) i j higher m);
       longest = λ j m. c.in_ok-end.ensures.last j (match_from whole t s from least start start j (omega arith) m);
     }
+
+pub returns-then-is_short_word-clause-read : goal.returns-then-is_short_word-clause-read
+returns-then-is_short_word-clause-read c = λ k few.
+    search_one c.args.program.now (length c.args.line.now) k _ _ c.args.self.now c.find_word.ensures.read
 
 pub returns-in-Some-clause-read : goal.returns-in-Some-clause-read
 returns-in-Some-clause-read c = λ k few.

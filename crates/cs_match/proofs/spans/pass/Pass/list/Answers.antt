@@ -1,4 +1,4 @@
-use Rattle.std.proofs.Common.{◌≡◌, ◌+◌, ℕ, Bool, true, false, List, length, sym, subst, arith, length-set}
+use Rattle.std.proofs.Common.{◌+◌, ℕ, Bool, true, false, List, length, sym, subst, arith, length-set}
 use Rattle.std.proofs.lemmas.Bool.{false≢true}
 use Rattle.cs_match.specs.Span.{IsFirstOf, HasNoMatchOf}
 use Rattle.cs_match.specs.SpanList.{first_spans}

@@ -66,8 +66,9 @@
 //! lane tests. Without a prefilter, or while it is not worth its cost (`Pacing`, on which no
 //! contract depends), four lanes list the lines of four chunks. One lane lists those of the rest of
 //! the block if the list is short, or if it leaves most lines early: it jumps over the rest of a
-//! line that is decided, which four lanes read. Now and then `Pacing` asks for a sample of the text:
-//! the table says how many of its bytes are read before their line is decided. `Matcher::count` is a loop over lists, and `Matcher::next_match` a list of one.
+//! line that is decided, which four lanes read. Now and then `Pacing` asks for a sample of the
+//! text: the table says how many of its bytes are read before their line is decided.
+//! `Matcher::count` is a loop over lists, and `Matcher::next_match` a list of one.
 //!
 //! *Lanes* (`lanes.rt`, `chunks.rt`) are four scans of four chunks of a block, so that the loads of
 //! one do not wait for those of another. Each lists the offset of each newline over which it enters

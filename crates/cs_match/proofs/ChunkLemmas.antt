@@ -1,7 +1,7 @@
 -- Chunks, and the lists of the lanes made one.
 use Rattle.std.proofs.Common.{◌≡◌, ◌≢◌, inl, inr, ℕ, zero, suc, ◌+◌, ◌-◌, ◌*◌, ◌/◌, ◌<◌, ◌≤◌, Bool, true, false, cond, nat_eq, List, [], ◌∷◌, ◌++◌, length, take, drop, get_or, refl, sym, ap, ap₂, subst, ◌∙◌, arith, length-take, length-drop, length-append, drop-drop, take-take}
 use Rattle.std.proofs.Math.Seq.{take-append_seam, drop-append_seam, take-append-add, drop-append-add}
-use Rattle.std.proofs.lemmas.Bool.{cases_eq}
+use Rattle.std.proofs.lemmas.Bool.{cases_eq, cases_lt}
 use Rattle.std.proofs.lemmas.List.{take-append-le, drop-take}
 use Rattle.std.specs.List.{count_by}
 use Rattle.std.proofs.lemmas.List.Sums.{count_by-le-length, sum_by-append}
@@ -15,7 +15,7 @@ use Rattle.cs_match.specs.Table.{unknown, TellsLines}
 use Rattle.cs_match.specs.MatchingEnds.{matching_ends, newlines_between}
 use Rattle.cs_match.specs.Lanes.{IsLane, IsChunk, AreListed, quarter}
 use Rattle.cs_match.proofs.MatchingEndLemmas.{newlines-append, newlines-more, ends-none, ends-append}
-use Rattle.cs_match.proofs.WholeLineLemmas.{whole_between, whole_line, whole_drop}
+use Rattle.cs_match.proofs.WholeLineLemmas.{whole_between, whole_line, whole_drop, whole_has_newline}
 
 -- each of four
 pub four : (P : ℕ → Type 0) → P 0 → P 1 → P 2 → P 3 → (k : ℕ) → k < 4 → P k
@@ -38,6 +38,13 @@ newlines_part : (part : List ℕ) → HasNoNewline part → count_by (λ b. nat_
 newlines_part [] p = refl
 newlines_part (b ∷ part) p = rw p.0 (newlines_part part p.1)
 
+-- a shorter part
+no_newline_take : (n m : ℕ) (text : List ℕ) → n ≤ m → HasNoNewline (take m text) → HasNoNewline (take n text)
+no_newline_take zero m text low part = tt
+no_newline_take (suc n) m [] low part = tt
+no_newline_take (suc n) zero (b ∷ text) low part = let no : ⊥ = omega (arith, low) in absurd no
+no_newline_take (suc n) (suc m) (b ∷ text) low part = (part.0, no_newline_take n m text (omega (arith, low)) part.1)
+
 -- a chunk is whole lines, and has at most one line more than `size`
 module _ (block : List ℕ) (size from : ℕ) (within : from ≤ length block) (whole : AreWholeLines (drop from block)) where
   pub line_chunk : (end : ℕ) → from + size ≤ end → end < length block → HasNoNewline (take (end - (from + size)) (drop (from + size) block)) →
@@ -59,6 +66,23 @@ module _ (block : List ℕ) (size from : ℕ) (within : from ≤ length block) (
       at_most : (f : Bool) → cond f 1 0 ≤ 1
       at_most true = omega arith
       at_most false = omega arith
+
+  -- no shorter lines have more than `size` bytes
+  pub fewest_lines : (end : ℕ) → from + size ≤ end → HasNoNewline (take (end - (from + size)) (drop (from + size) block)) →
+      (other : ℕ) → AreLinesBetween block from other → from + size < other → end + 1 ≤ other
+  fewest_lines end low part other lines long = elim (cases_lt end other) [
+    | inl past ↦ omega (arith, past)
+    | inr before ↦
+        let own = take (other - (from + size)) (drop (from + size) block) in
+        let bytes : other - from ≡ size + (other - (from + size)) = omega (arith, long) in
+        let is : drop size (take (other - from) (drop from block)) ≡ own =
+        ap (λ n. drop size (take n (drop from block))) bytes ∙ drop-take size (other - (from + size)) (drop from block)
+        ∙ ap (λ xs. take (other - (from + size)) xs) (drop-drop size from block) in
+        absurd (whole_has_newline own 0
+        (omega (arith, long, before, lines.high, length-take (other - (from + size)) (drop (from + size) block), length-drop (from + size) block))
+        (subst AreWholeLines is (whole_drop size (take (other - from) (drop from block)) lines.whole))
+        (no_newline_take (other - (from + size)) (end - (from + size)) (drop (from + size) block) (omega (arith, before)) part))
+  ]
 
 -- a chunk with more room
 pub chunk_within : (block : List ℕ) (n most from to : ℕ) → n ≤ most → IsChunk block n from to → IsChunk block most from to

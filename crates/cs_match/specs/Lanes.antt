@@ -1,9 +1,7 @@
 -- Lanes: each scans a chunk of a block, and lists the ends of its matching lines.
-use Rattle.std.specs.Prelude.{ℕ, ◌≡◌, ◌≢◌, ◌<◌, ◌≤◌, ◌+◌, ◌*◌, ◌/◌, Bool, List, length, take, slice_index, slice_index_or, slice_range}
+use Rattle.std.specs.Prelude.{ℕ, ◌≡◌, ◌≢◌, ◌<◌, ◌≤◌, ◌+◌, ◌*◌, ◌/◌, ◌⊎◌, Bool, List, length, take, slice_index, slice_index_or, slice_range}
 use Rattle.cs_match.specs.declared.table.Table.{Table}
 use Rattle.cs_match.specs.declared.lanes.Lane.{Lane}
-use Rattle.cs_match.specs.Lines.{newline}
-use Rattle.cs_match.specs.NoNewline.{HasNoNewline}
 use Rattle.cs_match.specs.LastPart.{last_part}
 use Rattle.cs_match.specs.MatchingEnds.{matching_ends, newlines_between}
 use Rattle.cs_match.specs.Skipped.{AreLinesBetween}
@@ -35,11 +33,11 @@ pub record IsChunk (block : List ℕ) (most from to : ℕ) : Type 0 where
 abbrev pub AreChunks : List ℕ → ℕ → List ℕ → Type 0
 AreChunks block most cuts = (k : ℕ) → k < 4 → IsChunk block most (slice_index cuts k) (slice_index cuts (k + 1))
 
--- A chunk of this size ends at the end of the block, or after the first newline at least so many bytes on.
-pub data IsCut (block : List ℕ) (size from to : ℕ) : Type 0 where
-  rest : length block ≤ from + size → to ≡ length block → IsCut block size from to
-  line : (end : ℕ) → from + size ≤ end → HasNoNewline (slice_range block (from + size) end) → slice_index block end ≡ newline →
-      to ≡ end + 1 → IsCut block size from to
+-- a chunk of this size: the fewest whole lines with more bytes, or all lines of the block if they have no more
+pub record IsCut (block : List ℕ) (size from to : ℕ) : Type 0 where
+  pub lines : AreLinesBetween block from to
+  pub long : (from + size < to) ⊎ (to ≡ length block)
+  pub fewest : (other : ℕ) → AreLinesBetween block from other → from + size < other → to ≤ other
 
 -- the offsets between four such chunks
 pub record AreCuts (block : List ℕ) (size from : ℕ) (cuts : List ℕ) : Type 0 where

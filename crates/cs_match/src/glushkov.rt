@@ -143,42 +143,54 @@ struct Configuration<'a> {
     here: LookAround,
 }
 
-/// Whether the position set accepts here; `may_begin` says whether a match can begin here.
+/// An offset of a line: whether a match may begin there, and the look-around.
+#[derive(Clone, Copy)]
+pub(crate) struct Offset {
+    pub(crate) may_begin: bool,
+    pub(crate) here: LookAround,
+}
+
+/// Whether the position set accepts at the offset.
 pub(crate) fn is_accepting(
     program: &Program,
-    may_begin: bool,
+    at: Offset,
     positions: &PositionSet,
-    here: LookAround,
     steps: &mut Steps,
 ) -> bool
     requires { length positions.now ≡ position_count program.now }
-    ensures accepting { result ≡ accepts program.now may_begin positions.now here }
+    ensures accepting { result ≡ accepts program.now at.may_begin positions.now at.here }
     ensures cost { CountsAtMost (nodes program.now) steps.old steps.new }
 {
     let mut cursor = START;
-    let ends = find_ends(program.part(), positions, &mut [], here, &mut cursor, steps);
-    ends.accepting || may_begin && ends.nullable
+    let ends = find_ends(
+        program.part(),
+        positions,
+        &mut [],
+        at.here,
+        &mut cursor,
+        steps,
+    );
+    ends.accepting || at.may_begin && ends.nullable
 }
 
-/// Moves the position set over a byte, and returns whether it accepts before the byte; `may_begin`
-/// says whether a match can begin there.
+/// Moves the position set over the byte at the offset, and returns whether it accepts before the
+/// byte.
 pub(crate) fn step_over(
     program: &Program,
-    may_begin: bool,
+    at: Offset,
     positions: &mut PositionSet,
     scratch: &mut Scratch,
-    here: LookAround,
     input: Input,
     steps: &mut Steps,
 ) -> bool
     requires one_each { length positions.old ≡ position_count program.now }
     requires scratch { IsScratch program.now scratch.old }
-    ensures accepting { result ≡ accepts program.now may_begin positions.old here }
-    ensures positions { positions.new ≡ step program.now may_begin positions.old here input }
+    ensures accepting { result ≡ accepts program.now at.may_begin positions.old at.here }
+    ensures positions { positions.new ≡ step program.now at.may_begin positions.old at.here input }
     ensures scratch { IsScratch program.now scratch.new }
     ensures cost { CountsAtMost (step_work program.now) steps.old steps.new }
 {
-    let accepting = enter(program, may_begin, positions, scratch, here, steps);
+    let accepting = enter(program, at, positions, scratch, steps);
     let slot = scratch
         .masks
         .find(program.positions(), program.byte_classes(), input, steps);
@@ -189,34 +201,33 @@ pub(crate) fn step_over(
 /// Finds which positions are entered, and returns whether the position set accepts.
 fn enter(
     program: &Program,
-    may_begin: bool,
+    at: Offset,
     positions: &PositionSet,
     scratch: &mut Scratch,
-    here: LookAround,
     steps: &mut Steps,
 ) -> bool
     requires one_each { length positions.now ≡ position_count program.now }
     requires scratch { IsScratch program.now scratch.old }
-    ensures accepting { result ≡ accepts program.now may_begin positions.now here }
+    ensures accepting { result ≡ accepts program.now at.may_begin positions.now at.here }
     ensures entries { take (position_count program.now) scratch.new.entries
-        ≡ entered program.now may_begin positions.now here }
+        ≡ entered program.now at.may_begin positions.now at.here }
     ensures scratch { IsScratch program.now scratch.new }
     ensures cost { CountsAtMost (2 * nodes program.now + words (position_count program.now + 1))
         steps.old steps.new }
 {
     let part = program.part();
-    note_loops(part, positions, &mut scratch.loops, here, steps);
+    note_loops(part, positions, &mut scratch.loops, at.here, steps);
     scratch.entries.shift_from(positions, steps);
     let mut cursor = START;
-    let at = Configuration {
+    let here = Configuration {
         positions,
         loops: &scratch.loops,
-        here,
+        here: at.here,
     };
     advance(
         part,
-        may_begin,
-        &at,
+        at.may_begin,
+        &here,
         &mut scratch.entries,
         &mut cursor,
         steps,

@@ -64,9 +64,11 @@
 //! until the block ends or the matcher's list may have no room for another part. An exact
 //! *prefilter* lists the lines with one of its words; another one skips to such a line, which one
 //! lane tests. Without a prefilter, or while it is not worth its cost (`Pacing`, on which no
-//! contract depends), four lanes list the lines of four chunks; one lane lists those of the rest of
-//! the block if the list is short, or if each match begins with `^`, since such a lane leaves most
-//! lines early. `Matcher::count` is a loop over lists, and `Matcher::next_match` a list of one.
+//! contract depends), four lanes list the lines of four chunks. One lane lists those of the rest of
+//! the block if the list is short, or if it leaves most lines early: it jumps over the rest of a
+//! line that is decided, which four lanes read. Now and then `Pacing` asks for a sample of the
+//! text: the table says how many of its bytes are read before their line is decided.
+//! `Matcher::count` is a loop over lists, and `Matcher::next_match` a list of one.
 //!
 //! *Lanes* (`lanes.rt`, `chunks.rt`) are four scans of four chunks of a block, so that the loads of
 //! one do not wait for those of another. Each lists the offset of each newline over which it enters

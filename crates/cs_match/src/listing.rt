@@ -2,6 +2,7 @@
 ghost use Rattle.std.specs.Prelude.{◌≡◌, ◌≤◌, ◌<◌, ◌+◌, ◌-◌, ◌*◌, IfSome, length, drop};
 ghost use Rattle.cs_match.specs.Skipping.{AreWholeLines, IsLineAfter};
 ghost use Rattle.cs_match.specs.Listing.{IsListedTo, ListsLines};
+ghost use Rattle.cs_match.specs.Table.{HasRows};
 ghost use Rattle.cs_match.specs.Work.{byte_work, list_work};
 ghost use Rattle.cs_prefilter.specs.WordAt.{IsPrefilterOf};
 ghost use Rattle.cs_prefilter.specs.CountsAtMost.{CountsAtMost};
@@ -13,10 +14,14 @@ use crate::one_lane::{ListedLines, OneLane};
 use crate::pacing::Pacing;
 use crate::program::Program;
 use crate::skipping::{next_candidate, whole_lines_len};
+use crate::table::Table;
 use cs_prefilter::{Listed, Prefilter, Steps};
 
 /// The shortest list that the lanes fill.
 const SHORT: usize = 256;
+
+/// The length of a sample.
+const SAMPLE: usize = 1024;
 
 /// The ways to search for the matching lines of a program, and the counters that choose between
 /// them.
@@ -24,20 +29,16 @@ const SHORT: usize = 256;
 pub(crate) struct Ways<'a> {
     /// The prefilter of the program, if it has one.
     pub(crate) prefilter: Option<&'a Prefilter>,
-    /// One lane is faster than four, since it leaves most lines early.
-    pub(crate) one_lane: bool,
     pub(crate) pacing: Pacing,
 }
 
 impl<'a> Ways<'a> {
-    /// The ways for a program. In a program whose matches begin at the start of the line, most
-    /// lines are dead early.
+    /// The ways for a program.
     pub(crate) fn new(program: &'a Program, pacing: Pacing) -> Ways<'a>
         ensures { IfSome result.prefilter (λ prefilter. IsPrefilterOf program.now prefilter.now) }
     {
         Ways {
             prefilter: program.prefilter(),
-            one_lane: program.is_anchored(),
             pacing,
         }
     }
@@ -110,7 +111,7 @@ fn list_part<D: OneLane>(
     ensures work { CountsAtMost (list_work (D.tree dfa.old) (result.to - from)) steps.old steps.new }
 {
     let Some(prefilter) = ways.next_prefilter() else {
-        return scan_part(dfa, ways.one_lane, block, from, ends, steps);
+        return scan_part(dfa, &mut ways.pacing, block, from, ends, steps);
     };
     if prefilter.is_exact() {
         let listed = prefilter.list(block, from, ends, steps);
@@ -189,10 +190,11 @@ fn list_line<D: OneLane>(
 }
 
 /// Lists those of the next lines without a prefilter: of four chunks by four lanes, or of the rest
-/// of the block by one.
+/// of the block by one. It is a function of its own, so that the loop over parts has registers.
+#[inline(never)]
 fn scan_part<D: OneLane>(
     dfa: &mut D,
-    one_lane: bool,
+    pacing: &mut Pacing,
     block: &[u8],
     from: usize,
     ends: &mut [usize],
@@ -204,10 +206,24 @@ fn scan_part<D: OneLane>(
     requires room { 0 < length ends.old }
     ensures lists { ListsLines (D.tree dfa.old) block.now from result ends.new }
     ensures dfa { D.is_right dfa.new × (D.tree dfa.new ≡ D.tree dfa.old) }
-    ensures work { CountsAtMost ((byte_work (D.tree dfa.old) + 3) * (result.to - from)) steps.old steps.new }
+    ensures work { CountsAtMost (1024 + (byte_work (D.tree dfa.old) + 3) * (result.to - from))
+        steps.old steps.new }
 {
-    if one_lane || ends.len() < SHORT {
-        return dfa.list_ends(block, from..block.len(), ends, steps);
+    if ends.len() >= SHORT && !uses_one_lane(dfa.table(), pacing, &block[from..], steps) {
+        return list_chunks(dfa, block, from, ends, steps);
     }
-    list_chunks(dfa, block, from, ends, steps)
+    dfa.list_ends(block, from..block.len(), ends, steps)
+}
+
+/// Whether one lane scans the next part. Now and then it reads a sample of the text.
+fn uses_one_lane(table: Table<'_>, pacing: &mut Pacing, text: &[u8], steps: &mut Steps) -> bool
+    requires { HasRows table }
+    ensures work { CountsAtMost 1024 steps.old steps.new }
+{
+    if pacing.asks_for_sample() {
+        let sample = &text[..text.len().min(SAMPLE)];
+        steps.add(sample.len());
+        pacing.note_sample(table.undecided(sample), sample.len());
+    }
+    pacing.one_lane
 }

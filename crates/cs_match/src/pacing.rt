@@ -1,4 +1,5 @@
-// Whether the prefilter is worth its cost. No contract depends on it.
+// Whether the prefilter is worth its cost, and whether one lane is faster than four. No contract
+// depends on it.
 
 use crate::one_lane::ListedLines;
 use crate::skipping::Candidate;
@@ -11,11 +12,15 @@ const NEAR: usize = 256;
 /// their time.
 const MOST_WASTED: usize = 16 * NEAR;
 
+/// One lane is faster than four if it reads at most one of so many bytes: it jumps over the rest of
+/// a line that is decided.
+const EARLY: usize = 4;
+
 /// The longest backoff, in parts.
 const LONGEST: usize = 64;
 
-/// Exponential backoff: the number of parts to search without the prefilter before it is tried
-/// again, 1, 2, 4 and so on, as long as it keeps failing.
+/// Exponential backoff: the number of parts before something is tried again, 1, 2, 4 and so on, as
+/// long as the answer stays.
 #[derive(Clone, Copy, Drop)]
 struct Backoff {
     remaining: usize,
@@ -23,7 +28,12 @@ struct Backoff {
 }
 
 impl Backoff {
-    /// Whether this part is searched without the prefilter. Counts it if so.
+    const NEW: Backoff = Backoff {
+        remaining: 0,
+        last: 0,
+    };
+
+    /// Whether it is not tried for this part. Counts the part if so.
     fn use_one(&mut self) -> bool {
         let is_skipped = self.remaining > 0;
         self.remaining = self.remaining.saturating_sub(1);
@@ -37,23 +47,43 @@ impl Backoff {
     }
 }
 
-/// Counters that guess whether the prefilter or the DFA alone is faster for the text at hand.
+/// Counters that guess what is faster for the text at hand: the prefilter or the DFA alone, and one
+/// lane or four.
 #[derive(Drop)]
 pub(crate) struct Pacing {
+    /// Of the prefilter.
     backoff: Backoff,
     /// The cost of near candidates in a row that had no match, in bytes that the DFA scans in their
     /// time.
     wasted: usize,
+    /// Of samples of the text.
+    sampling: Backoff,
+    /// One lane is faster than four, since it leaves most lines early.
+    pub(crate) one_lane: bool,
 }
 
 impl Pacing {
     pub(crate) const NEW: Pacing = Pacing {
-        backoff: Backoff {
-            remaining: 0,
-            last: 0,
-        },
+        backoff: Backoff::NEW,
         wasted: 0,
+        sampling: Backoff::NEW,
+        one_lane: false,
     };
+
+    /// Whether the next scan begins with a sample.
+    pub(crate) fn asks_for_sample(&mut self) -> bool {
+        !self.sampling.use_one()
+    }
+
+    /// Notes how many bytes of a sample are read before their lines are decided.
+    pub(crate) fn note_sample(&mut self, undecided: usize, len: usize) {
+        let early = undecided <= len / EARLY;
+        if early != self.one_lane {
+            self.one_lane = early;
+            self.sampling.last = 0;
+        }
+        self.sampling.begin();
+    }
 
     /// Whether the prefilter is used for the next part of a block.
     pub(crate) fn uses_prefilter(&mut self) -> bool {

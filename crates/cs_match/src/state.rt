@@ -8,7 +8,7 @@ ghost use Rattle.cs_match.specs.Work.{words, step_work};
 ghost use Rattle.cs_match.specs.States.{start, ahead, look_at_end, next_state, successor, accepts_before};
 ghost use Rattle.cs_prefilter.specs.CountsAtMost.{CountsAtMost};
 
-use crate::glushkov::{Scratch, is_accepting, step_over};
+use crate::glushkov::{Offset, Scratch, is_accepting, step_over};
 use crate::input::Input;
 use crate::look_around::LookAround;
 use crate::position_set::PositionSet;
@@ -147,17 +147,13 @@ impl State {
             last: false,
             edge: self.word ^ is_word,
         };
+        let at = Offset {
+            may_begin: true,
+            here,
+        };
         let char = program.char_step(self.unfinished, byte);
         let input = Input { byte, char };
-        let accepting = step_over(
-            program,
-            true,
-            &mut self.positions,
-            scratch,
-            here,
-            input,
-            steps,
-        );
+        let accepting = step_over(program, at, &mut self.positions, scratch, input, steps);
         self.first = false;
         self.word = is_word;
         self.unfinished = char.unfinished();
@@ -179,7 +175,11 @@ impl State {
             last: true,
             edge: self.word,
         };
-        let accepting = is_accepting(program, true, &self.positions, here, steps);
+        let at = Offset {
+            may_begin: true,
+            here,
+        };
+        let accepting = is_accepting(program, at, &self.positions, steps);
         self.begin(program, steps);
         accepting
     }

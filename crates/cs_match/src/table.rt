@@ -1,6 +1,6 @@
 // The transition table of the lazy DFA, borrowed by a scan. `specs/Table.antt` says what a scan
 // needs of it.
-ghost use Rattle.std.specs.Prelude.{◌≡◌};
+ghost use Rattle.std.specs.Prelude.{◌≡◌, ◌≤◌, length};
 ghost use Rattle.cs_match.specs.Table.{next_number, unknown, start, IsRow, HasRows};
 
 /// A transition table: a row for each state, with a transition for each class of bytes. The number
@@ -49,5 +49,24 @@ impl<'a> Table<'a> {
     {
         let column = &self.transitions[self.of[byte as usize] as usize..];
         column[number as usize]
+    }
+
+    /// How many bytes of the text are read before their line is decided: those before which the
+    /// state is neither the match state nor the dead one.
+    #[cold]
+    #[inline(never)]
+    pub(crate) fn undecided(self, text: &[u8]) -> usize
+        requires { HasRows self }
+        ensures { result ≤ length text.now }
+    {
+        let mut number = self.start();
+        let mut count = 0;
+        for b in text {
+            if number <= self.unknown() || number >= self.start() {
+                count += 1;
+            }
+            number = self.next(number, *b);
+        }
+        count
     }
 }

@@ -10,7 +10,7 @@ ghost use Rattle.cs_match.specs.SpanWork.{pass_bytes, find_bytes};
 
 use super::around::{is_word_after, is_word_before, look_around, unfinished_before};
 use super::{Listed, Span};
-use crate::glushkov::{Scratch, is_accepting, step_over};
+use crate::glushkov::{Offset, Scratch, is_accepting, step_over};
 use crate::input::Input;
 use crate::position_set::PositionSet;
 use crate::program::Program;
@@ -296,12 +296,15 @@ impl Pass {
         let char = program.char_step(self.unfinished, byte);
         let here = look_around(program, line, offset);
         self.unfinished = char.unfinished();
+        let at = Offset {
+            may_begin: may_begin(line, part, offset),
+            here,
+        };
         let accepts = step_over(
             program,
-            may_begin(line, part, offset),
+            at,
             &mut self.positions,
             &mut self.scratch,
-            here,
             Input { byte, char },
             &mut self.steps,
         );
@@ -328,7 +331,8 @@ impl Pass {
         self.left = self.left.saturating_sub(1);
         self.read.add(1);
         self.steps.add(1);
-        let accepts = is_accepting(program, may_begin, &self.positions, here, &mut self.steps);
+        let at = Offset { may_begin, here };
+        let accepts = is_accepting(program, at, &self.positions, &mut self.steps);
         let may_end = may_end(line, part.whole, line.len());
         accepts & may_end
     }

@@ -196,6 +196,32 @@ fn more_sets_than_rows(rt: HostRuntime) -> Result<(), Fail> {
     Ok(())
 }
 
+/// So many letters `a` and `b` in no order, by a linear congruential generator.
+fn mixed_letters(alloc: Global, count: usize) -> Result<Vec<u8>, AllocError> {
+    let mut line = Vec::new(alloc);
+    let mut seed = 1u32;
+    for _ in 0..count {
+        seed = seed.wrapping_mul(1_664_525).wrapping_add(1_013_904_223);
+        line.push(if seed >> 31 == 1 { b'a' } else { b'b' })?;
+    }
+    Ok(line)
+}
+
+// No clause says that a cached state is found again. Here a state is which of the last nine letters
+// are `a`. A state that is not found is cached again, so that there are more.
+#[test]
+fn states_are_cached_once(rt: HostRuntime) -> Result<(), Fail> {
+    let program = program_of(rt.alloc(), "a(a|b){8}$").ok_or("program")?;
+    let mut matcher = Matcher::new(rt.alloc(), &program)?;
+    let line = mixed_letters(rt.alloc(), 20_000)?;
+    for reading in 1..3 {
+        matcher.is_match(&line);
+        let states = matcher.state_count();
+        assert!(rt; states == 512, "{states} states after reading {reading}");
+    }
+    Ok(())
+}
+
 /// A text repeated, another text, and as many copies of a third one.
 type Repeated<'a> = (&'a str, usize, &'a str, &'a str);
 

@@ -1,7 +1,5 @@
-use Rattle.std.proofs.Common.{◌≡◌, ◌+◌, get_or, refl, arith, drop-cons}
-use Rattle.cs_match.specs.Lines.{newline}
-use Rattle.cs_match.specs.Lanes.IsCut.{line}
-use Rattle.cs_match.proofs.ChunkLemmas.{line_chunk}
+use Rattle.std.proofs.Common.{◌+◌, arith, inl, inr}
+use Rattle.cs_match.proofs.ChunkLemmas.{line_chunk, fewest_lines}
 use Rattle.cs_match.proofs.WholeLineLemmas.{whole_from}
 use Rattle.cs_match.proofs.chunks.cut.Goals as goal
 
@@ -11,10 +9,12 @@ line_end-requires-clause-whole c = whole_from c.args.block.now c.args.from (c.ar
 pub returns-clause-cut : goal.returns-clause-cut
 returns-clause-cut c =
     let end = c.line_end.ensures in
-    let here = drop-cons c.args.block.now c.line_end.result 0 end.high in
-    let there = end.newline in
-    let byte : get_or c.args.block.now c.line_end.result 0 ≡ newline = (cc) in
-    line c.line_end.result end.low end.part byte refl
+    record {
+      lines = (line_chunk c.args.block.now c.args.size c.args.from c.requires.within c.requires.whole c.line_end.result end.low end.high end.part
+          end.newline).lines;
+      long = inl (omega (arith, end.low));
+      fewest = fewest_lines c.args.block.now c.args.size c.args.from c.requires.within c.requires.whole c.line_end.result end.low end.part;
+    }
 
 pub returns-clause-chunk : goal.returns-clause-chunk
 returns-clause-chunk c =

@@ -36,7 +36,7 @@ move_over-requires-clause-one_mask c =
 pub returns-clause-positions : goal.returns-clause-positions
 returns-clause-positions c =
     let t = c.args.program.now in
-    is_step t c.args.may_begin c.args.positions.now c.args.here c.args.input c.enter-accepting.new.scratch.entries
+    is_step t c.args.at.may_begin c.args.positions.now c.args.at.here c.args.input c.enter-accepting.new.scratch.entries
     c.move_over.new.positions _ _ _ c.requires.one_each c.enter-accepting.ensures.entries
     (mask_entered t c.positions.result.now c.index.result.now c.args.input
     (found c.positions.result.now c.find-slot.new.self.slots.items c.find-slot.result c.index.result.now c.index.ensures

@@ -30,12 +30,15 @@ words_placed words = record {
     word_inside text k w some h = elim (cases_lt k (length text)) [
       | inl low ↦ (k, low, h)
       | inr past ↦
-          let none : length w.sets.items ≡ 0 = omega (arith, past, h.within) in
-          (0, some, record {
-            before = λ after. let no : ⊥ = omega (arith, after) in absurd no;
-            within = omega (arith, none);
-            each = λ i d low. let no : ⊥ = omega (arith, low, none) in absurd no;
-          })
+          let none : length w.sets.items ≡ 0 = omega (arith, past, h.within) in (
+            0,
+            some,
+            record {
+              before = λ after. let no : ⊥ = omega (arith, after) in absurd no;
+              within = omega (arith, none);
+              each = λ i d low. let no : ⊥ = omega (arith, low, none) in absurd no;
+            },
+          )
     ]
 
     word_prefix : (line rest : List ℕ) (k : ℕ) (w : Word) → WordAt line k w → WordAt (line ++ rest) k w

@@ -9,8 +9,12 @@
 //! `specs/Prefixes.antt` how words are compared.
 //!
 //! One walk over the tree collects *runs*: the byte sets that neighbouring bytes of each match are
-//! in, from left to right. An assertion or an empty part does not interrupt a run. A repeat of at
-//! least one iteration ends a run with its first iteration, and begins the next one with its last.
+//! in, from left to right. An empty part does not interrupt a run. `$`, and an edge of a word after
+//! word bytes, give a word of the run so far and of the byte that follows: the newline, or a byte
+//! that is no word byte. The run goes on without it. `^`, and an edge before a word byte, say what
+//! the byte before the run is, unless the line begins there. No other set has a newline, so a word
+//! lies in one line and its newline. A repeat of at least one iteration ends a run with its first
+//! iteration, and begins the next one with its last.
 //! The rarest run gives the only word, or an alternation gives the words of all its branches,
 //! whichever is rarer. If the tree matches each of the words by itself, the prefilter is *exact*: a
 //! line has a match if and only if it contains a word.

@@ -9,4 +9,5 @@ pub mod SectionPieces
 pub mod SectionReads
 pub mod StoredEntries
 pub mod TextRuns
+pub mod NulRuns
 pub mod StoredTables

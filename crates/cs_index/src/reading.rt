@@ -9,6 +9,7 @@ mod list_buffer;
 mod list_decoder;
 mod name_reader;
 mod name_table;
+mod nuls;
 mod order;
 mod part;
 mod piece;

@@ -1,15 +1,16 @@
 -- The entries of a list index that is tested piece by piece.
-use Rattle.std.proofs.Common.{◌≡◌, ℕ, zero, suc, ◌+◌, ◌*◌, ◌/◌, ◌%◌, ◌≤◌, Bool, true, false, ◌&&◌, leb, ltb, List, [], ◌∷◌, ◌++◌, length, refl, sym, ap, ◌∙◌, arith, length-append, Option, Some, None, take}
+use Rattle.std.proofs.Common.{◌≡◌, ℕ, zero, suc, ◌+◌, ◌-◌, ◌*◌, ◌/◌, ◌%◌, ◌<◌, ◌≤◌, Bool, true, false, ◌&&◌, ◌||◌, leb, ltb, eqb, List, [], ◌∷◌, ◌++◌, length, refl, sym, ap, ◌∙◌, arith, length-append, Option, Some, None, take}
 use Rattle.cs_tree.specs.Store.{part_of}
 use Rattle.cs_index.proofs.stored.StoredEntries.{entry_part}
 use Rattle.std.proofs.Math.Seq.{take-append_seam, drop-append_seam, take-length}
 use Rattle.std.specs.Prelude.{IfSome}
 use Rattle.std.specs.Option.{IfNone, is_some}
-use Rattle.std.proofs.lemmas.Bool.{eq-eqb, le-leb, ne_eqb}
+use Rattle.std.proofs.lemmas.Bool.{eq-eqb, le-leb, lt-ltb, ne_eqb}
 use Rattle.std.proofs.lemmas.List.{append-nil}
 use Rattle.std.specs.List.{list_all}
+use Rattle.cs_trigram.specs.Trigram.{closing_trigram}
 use Rattle.cs_index.specs.Encoding.{ListEntry}
-use Rattle.cs_index.specs.Opening.{entries_from, entries_in, entry_at, is_entry, is_list_index, rises}
+use Rattle.cs_index.specs.Opening.{entries_from, entries_in, entry_at, is_entry, is_list_index, rises, trigram_at}
 use Rattle.cs_index.specs.SectionPieces.{are_entries}
 
 -- ---- both tests of entries at once
@@ -109,3 +110,37 @@ tested_is room bytes (Some next) whole some none =
     sym (list_index_tested room bytes whole ∙ ap (are_entries room 0) (sym (append-nil (entries_in bytes))) ∙ some [])
 tested_is room bytes None whole some none =
     sym (list_index_tested room bytes whole ∙ ap (are_entries room 0) (sym (append-nil (entries_in bytes))) ∙ none [])
+
+-- ---- the last entry that was tested
+
+-- an entry of `ff ff ff` counts no file
+abbrev pub is_closed : ListEntry → Bool
+is_closed e = ltb e.trigram closing_trigram || eqb e.count 0
+
+-- the entry before an offset, if there is one
+abbrev pub is_last_closed : List ℕ → ℕ → Bool
+is_last_closed bytes zero = true
+is_last_closed bytes (suc n) = is_closed (entry_at bytes (suc n - 11))
+
+pub lower_closed : (e : ListEntry) → e.trigram < closing_trigram → is_closed e ≡ true
+lower_closed e low = ap (λ b. b || eqb e.count 0) (lt-ltb e.trigram closing_trigram low)
+
+pub last_lower : (bytes : List ℕ) (at : ℕ) → (0 < at → trigram_at bytes (at - 11) < closing_trigram) → is_last_closed bytes at ≡ true
+last_lower bytes zero h = refl
+last_lower bytes (suc n) h = lower_closed (entry_at bytes (suc n - 11)) (h (omega arith))
+
+-- one more entry, whose trigram is not less than `next`
+pub entry_follows : (room next : ℕ) (bytes : List ℕ) (at : ℕ) (es : List ListEntry) → is_last_closed bytes at ≡ true →
+    next ≤ trigram_at bytes at → leb ((entry_at bytes at).offset + 4) room ≡ true →
+    (is_last_closed bytes at && are_entries room next (entry_at bytes at ∷ es))
+    ≡ (is_last_closed bytes (at + 11) && are_entries room (trigram_at bytes at + 1) es)
+entry_follows room next bytes at es closed high fits =
+    let e = entry_at bytes at in
+    let rest = are_entries room (e.trigram + 1) es in
+    let far : is_last_closed bytes (at + 11) ≡ is_closed e =
+    ap (is_last_closed bytes) (let z : at + 11 ≡ suc (at + 10) = omega arith in z)
+    ∙ ap (λ n. is_closed (entry_at bytes n)) (let z : suc (at + 10) - 11 ≡ at = omega arith in z) in
+    ap (λ b. b && are_entries room next (e ∷ es)) closed
+    ∙ ap (λ b. b && ((leb (e.offset + 4) room && is_closed e) && rest)) (le-leb next e.trigram high)
+    ∙ ap (λ b. (b && is_closed e) && rest) fits
+    ∙ ap (λ b. b && rest) (sym far)

@@ -8,6 +8,7 @@ ghost use Rattle.std.specs.Option.{option_copied};
 ghost use Rattle.cs_index.specs.Encoding.{with_nul};
 ghost use Rattle.cs_index.specs.Opening.{number_at, trigram_at, is_names_section, is_section, texts_of};
 
+use crate::reading::nuls::{count_nuls, texts_len};
 use memchr::memchr;
 
 /// The big-endian number in the four bytes at an offset.
@@ -55,22 +56,19 @@ pub(crate) fn first_texts(piece: &[u8]) -> Option<TextRun>
     ensures run { IfSome result (IsTextRun piece.now) }
     ensures none { IfNone result ((more : List ℕ) → IsNoSection (piece.now ++ more)) }
 {
-    let mut rest = piece;
-    let mut count = 0;
-    'texts: while let Some((_text, next)) = first_text(rest) {
-        rest = next;
-        count += 1;
-    }
+    let (texts, rest) = piece.split_at(texts_len(piece));
     // A NUL is a character, so the strings are UTF-8 if all these bytes are.
-    let len = piece.len() - rest.len();
-    if std::str::from_utf8(&piece[..len]).is_err() {
+    if std::str::from_utf8(texts).is_err() {
         return None;
     }
     // A NUL without a string ends the section.
     if rest.len() > 1 && rest[0] == 0 {
         return None;
     }
-    Some(TextRun { len, count })
+    Some(TextRun {
+        len: texts.len(),
+        count: count_nuls(texts),
+    })
 }
 
 /// Whether a section is strings and one final NUL.

@@ -1,9 +1,9 @@
 // The name index and the list index.
-ghost use Rattle.std.specs.Prelude.{◌≡◌, ◌==◌, ◌≤◌, ◌<◌, ◌+◌, ◌^◌, ◌++◌, [], ◌≢◌, ◌-◌, List, true, false, length, slice_index, IfSome, IfNone, IsTrue};
+ghost use Rattle.std.specs.Prelude.{◌≡◌, ◌==◌, ◌≤◌, ◌<◌, ◌+◌, ◌^◌, ◌++◌, [], ◌≢◌, ◌-◌, List, true, false, length, slice_index, nat_le, IfSome, IfNone, IsTrue};
 ghost use Rattle.cs_index.specs.SectionPieces.{are_entries};
 ghost use Rattle.cs_index.specs.ValidSections.{has_starts};
 ghost use Rattle.cs_index.specs.Encoding.{ListEntry};
-ghost use Rattle.cs_index.specs.Opening.{entries_in, entry_at, trigram_at, is_entry, is_list_index, is_section, texts_of};
+ghost use Rattle.cs_index.specs.Opening.{entries_in, entry_at, trigram_at, is_list_index, is_section, texts_of};
 
 use crate::reading::bytes::read_number;
 
@@ -72,29 +72,28 @@ pub(crate) fn test_entries(entries: &[u8], least: usize, room: usize) -> Option<
     let mut at = 0;
     'entries: while entries.len() - at >= ENTRY_LEN {
         let trigram = entry_trigram(entries, at) as usize;
-        if trigram < next || !entry_fits(entries, at, room) {
+        if trigram < next || !list_fits(entries, at, room) {
             return None;
         }
         next = trigram + 1;
         at += ENTRY_LEN;
     }
+    // Trigrams ascend, so only the last one may be the greatest of all.
+    if next > 0xffffff && at > 0 && !has_no_ids(entries, at - ENTRY_LEN) {
+        return None;
+    }
     Some(next)
 }
 
-/// Whether the entry fits a section of `room` bytes.
-fn entry_fits(list_index: &[u8], at: usize, room: usize) -> bool
+/// Whether the section of `room` bytes has four bytes at the offset of the entry.
+fn list_fits(list_index: &[u8], at: usize, room: usize) -> bool
     requires { at + ENTRY_LEN ≤ length list_index.now }
-    ensures { result ≡ is_entry room (entry_at list_index.now at) }
+    ensures { result ≡ nat_le ((entry_at list_index.now at).offset + 4) room }
 {
-    if entry_trigram(list_index, at) >= 0xffffff && !has_no_ids(list_index, at) {
-        return false;
-    }
     read_number(list_index, at + 7) as usize + 4 <= room
 }
 
-/// Whether the entry counts no file. Only the last entry is asked, so the counts of the others are
-/// not read.
-#[inline(never)]
+/// Whether the entry counts no file.
 fn has_no_ids(list_index: &[u8], at: usize) -> bool
     requires { at + ENTRY_LEN ≤ length list_index.now }
     ensures { result ≡ ((entry_at list_index.now at).count == 0) }
@@ -106,7 +105,8 @@ fn has_no_ids(list_index: &[u8], at: usize) -> bool
 #[tactic(auto, unfolding(crate::specs::Opening::number_at, crate::specs::Opening::trigram_at))]
 fn entry_trigram(list_index: &[u8], at: usize) -> u32
     requires { at + ENTRY_LEN ≤ length list_index.now }
-    ensures { result ≡ trigram_at list_index.now at }
+    ensures value { result ≡ trigram_at list_index.now at }
+    ensures bound { result ≤ 0xffffff }
 {
     read_number(list_index, at) / 256
 }

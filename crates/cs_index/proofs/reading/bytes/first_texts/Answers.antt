@@ -1,85 +1,86 @@
-use Rattle.std.proofs.Common.{rules, ◌≡◌, ◌-◌, ◌∙◌, ◌++◌, ◌∷◌, ◌<◌, [], ap, sym, subst, refl, true, false, arith, List, ℕ, length, get_or, take, append_assoc, length-append}
-use Rattle.std.proofs.lemmas.List.{length_push}
+use Rattle.std.proofs.Common.{rules, ◌≡◌, ◌-◌, ◌∙◌, ◌++◌, ◌<◌, ap, sym, subst, true, false, arith, List, ℕ, length, get_or, take, drop, append_assoc, length-drop, length-take-le}
+use Rattle.std.proofs.lemmas.List.Sums.{count_by-le-length}
 use Rattle.std.proofs.lemmas.Str.{IsUtf8-from_is_utf8}
+use Rattle.std.specs.List.{count_by}
 use Rattle.std.specs.Str.{is_utf8}
 use Rattle.cs_index.specs.Decoding.{AreStrings}
-use Rattle.cs_index.specs.Encoding.{with_nul}
+use Rattle.cs_index.specs.Nuls.{AreTextsTo, is_nul}
 use Rattle.cs_index.specs.SectionPieces.{IsNoSection}
 use Rattle.cs_index.specs.ValidSections.{HasNoText}
 use Rattle.cs_index.proofs.decoding.StringScan.{not_utf8, yes_utf8}
-use Rattle.cs_index.proofs.stored.SectionPieces.{nul_no, none_on, rest_dropped, run_bytes}
-use Rattle.cs_index.proofs.stored.TextRuns.{bad_run, good_run, plain_more, plain_taken}
+use Rattle.cs_index.proofs.stored.NulRuns.{none_after, texts_to}
+use Rattle.cs_index.proofs.stored.SectionPieces.{nul_no, none_on, run_bytes}
+use Rattle.cs_index.proofs.stored.TextRuns.{ArePlain, bad_run, good_run, plain_taken}
 use Rattle.cs_index.proofs.reading.bytes.first_texts.Goals as goal
 
-pub texts-init : goal.texts-init
-texts-init c = record { run = λ tail texts strings. (texts, omega arith, strings); few = omega arith }
+-- the strings whose UTF-8 is not tested yet, and what follows them
+record Split (piece : List ℕ) (len : ℕ) : Type 0 where
+  texts : List (List ℕ)
+  plain : ArePlain (drop len piece) texts piece
+  count : count_by is_nul (take len piece) ≡ length texts
+  bytes : take len piece ≡ run_bytes texts
 
-pub texts-preserved : goal.texts-preserved
-texts-preserved c =
-    let text : List ℕ = c.in-Some._text.now in
-    let next : List ℕ = c.in-Some.next.now in
-    let l : length c.texts.rest.now ≡ length (with_nul text ++ next) = ap length c.in-Some.ensures.text in
-    let a = length-append (with_nul text) next in
-    let p = length_push text 0 in
-    let few = c.texts.invariant.few in
+split_at : (piece : List ℕ) (len : ℕ) → AreTextsTo piece len → Split piece len
+split_at piece len are =
+    let found = texts_to piece len are in
+    let l = length-drop len piece in
+    let same : length piece - length (drop len piece) ≡ len = omega (arith, l, are.within) in
     record {
-      run = λ tail texts strings.
-          let all = c.texts.invariant.run tail (text ∷ texts)
-          (plain_more c.texts.rest.now text next tail texts c.in-Some.ensures.text
-          (c.in-Some.ensures.some, c.in-Some.ensures.above) strings) in
-          (all.0, (let z = all.1 in omega (arith, z)), all.2);
-      few = omega (arith, l, a, p, few);
+      texts = found.0;
+      plain = found.1;
+      count = found.2;
+      bytes = ap (λ n. take n piece) (sym same) ∙ plain_taken piece (drop len piece) found.0 found.1.1;
     }
 
 pub returns-then-is_err-clause-none : goal.returns-then-is_err-clause-none
 returns-then-is_err-clause-none c =
     let piece : List ℕ = c.args.piece.now in
-    let rest : List ℕ = c.texts.rest.now in
-    let so_far = c.texts.invariant.run rest [] (tt, refl) in
-    let taken = plain_taken piece rest so_far.0 so_far.2.1 in
-    let bad : is_utf8 (take (length piece - length rest) piece) ≡ false =
-    not_utf8 _ _ c.from_utf8.result (take (length piece - length rest) piece) c.from_utf8.ensures.cases
+    let len : ℕ = c.texts_len.result in
+    let split = split_at piece len c.texts_len.ensures in
+    let bad : is_utf8 (take len piece) ≡ false =
+    ap is_utf8 (sym c.split_at.ensures.front) ∙ not_utf8 _ _ c.from_utf8.result c.split_at.result.0.now c.from_utf8.ensures.cases
     (sym c.is_err.ensures.value ∙ c.if-is_err.true) in
-    λ more. subst IsNoSection (sym (ap (λ (p : List ℕ). p ++ more) so_far.2.1 ∙ append_assoc (run_bytes so_far.0) rest more))
-    (bad_run so_far.0 (rest ++ more) so_far.2.0 (ap is_utf8 (sym taken) ∙ bad))
+    λ more. subst IsNoSection
+    (sym (ap (λ (p : List ℕ). p ++ more) split.plain.1 ∙ append_assoc (run_bytes split.texts) (drop len piece) more))
+    (bad_run split.texts (drop len piece ++ more) split.plain.0 (ap is_utf8 (sym split.bytes) ∙ bad))
+
+-- the strings are UTF-8
+good : (piece : List ℕ) (len : ℕ) (split : Split piece len) → is_utf8 (take len piece) ≡ true →
+    AreStrings (drop len piece) split.texts piece
+good piece len split is = (
+  good_run split.texts split.plain.0 (IsUtf8-from_is_utf8 (run_bytes split.texts) (ap is_utf8 (sym split.bytes) ∙ is)),
+  split.plain.1,
+)
 
 pub returns-then-rest-eq0-clause-none : goal.returns-then-rest-eq0-clause-none
 returns-then-rest-eq0-clause-none c =
     let piece : List ℕ = c.args.piece.now in
-    let rest : List ℕ = c.texts.rest.now in
-    let so_far = c.texts.invariant.run rest [] (tt, refl) in
-    let taken = plain_taken piece rest so_far.0 so_far.2.1 in
-    let good : is_utf8 (take (length piece - length rest) piece) ≡ true =
-    yes_utf8 _ _ c.from_utf8.result (take (length piece - length rest) piece) c.from_utf8.ensures.cases
-    (sym c.is_err.ensures.value ∙ c.if-is_err.false) in
-    let strings : AreStrings rest so_far.0 piece = (
-      good_run so_far.0 so_far.2.0 (IsUtf8-from_is_utf8 (run_bytes so_far.0) (ap is_utf8 (sym taken) ∙ good)),
-      so_far.2.1,
-    ) in
-    let first : get_or rest 0 0 ≡ 0 = search rules in
-    let long : 1 < length rest = search rules in
-    λ more. none_on piece rest more so_far.0 strings (nul_no rest more first long)
+    let len : ℕ = c.texts_len.result in
+    let split = split_at piece len c.texts_len.ensures in
+    let is : is_utf8 (take len piece) ≡ true = ap is_utf8 (sym c.split_at.ensures.front)
+    ∙ yes_utf8 _ _ c.from_utf8.result c.split_at.result.0.now c.from_utf8.ensures.cases (sym c.is_err.ensures.value ∙ c.if-is_err.false) in
+    let first : get_or (drop len piece) 0 0 ≡ 0 = ap (λ (r : List ℕ). get_or r 0 0) (sym c.split_at.ensures.back) ∙ c.if-rest-eq0.true in
+    let l = ap length c.split_at.ensures.back in
+    let long : 1 < length (drop len piece) = omega (arith, l, c.if-rest-gt1.true) in
+    λ more. none_on piece (drop len piece) more split.texts (good piece len split is) (nul_no (drop len piece) more first long)
 
 pub returns-clause-run : goal.returns-clause-run
 returns-clause-run c =
     let piece : List ℕ = c.args.piece.now in
-    let rest : List ℕ = c.texts.rest.now in
-    let so_far = c.texts.invariant.run rest [] (tt, refl) in
-    let few = c.texts.invariant.few in
-    let taken = plain_taken piece rest so_far.0 so_far.2.1 in
-    let good : is_utf8 (take (length piece - length rest) piece) ≡ true =
-    yes_utf8 _ _ c.from_utf8.result (take (length piece - length rest) piece) c.from_utf8.ensures.cases
-    (sym c.is_err.ensures.value ∙ c.if-is_err.false) in
-    let strings : AreStrings rest so_far.0 piece = (
-      good_run so_far.0 so_far.2.0 (IsUtf8-from_is_utf8 (run_bytes so_far.0) (ap is_utf8 (sym taken) ∙ good)),
-      so_far.2.1,
-    ) in
-    let dropped = rest_dropped piece rest so_far.0 strings in
+    let len : ℕ = c.texts_len.result in
+    let split = split_at piece len c.texts_len.ensures in
+    let is : is_utf8 (take len piece) ≡ true = ap is_utf8 (sym c.split_at.ensures.front)
+    ∙ yes_utf8 _ _ c.from_utf8.result c.split_at.result.0.now c.from_utf8.ensures.cases (sym c.is_err.ensures.value ∙ c.if-is_err.false) in
+    let long : length c.split_at.result.0.now ≡ len = search rules in
+    let few = count_by-le-length is_nul (take len piece) in
+    let t = length-take-le len piece c.texts_len.ensures.within in
+    let same : c.count_nuls.result ≡ length split.texts =
+    c.count_nuls.ensures ∙ ap (count_by is_nul) c.split_at.ensures.front ∙ split.count in
     record {
-      within = omega arith;
-      few = omega (arith, few);
-      texts = so_far.0;
-      count = (let z = so_far.1 in omega (arith, z));
-      strings = subst (λ (r : List ℕ). AreStrings r so_far.0 piece) dropped strings;
-      rest = subst HasNoText dropped c.in_default.ensures.none;
+      within = omega (arith, long, c.texts_len.ensures.within);
+      few = omega (arith, long, few, t, same, split.count);
+      texts = split.texts;
+      count = sym same;
+      strings = subst (λ n. AreStrings (drop n piece) split.texts piece) (sym long) (good piece len split is);
+      rest = subst (λ n. HasNoText (drop n piece)) (sym long) (none_after piece len c.texts_len.ensures);
     }

@@ -11,6 +11,7 @@
 
 mod fault;
 mod file_search;
+pub mod laws;
 mod reports;
 
 pub use fault::FreshFault;

@@ -1,0 +1,3 @@
+mod SearchLemmas
+mod TextLemmas
+mod FileLemmas

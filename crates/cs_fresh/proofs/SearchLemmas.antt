@@ -1,0 +1,39 @@
+-- Two states of a search for the same.
+use Rattle.std.proofs.Common.{ℕ, true, List, refl, sym, subst, ◌∙◌}
+use Rattle.cs_syntax.specs.Matching.{HasMatch}
+use Rattle.cs_match.specs.Span.{AreSpansFrom}
+use Rattle.cs_project.specs.Findings.{Finding, HasWord, Matches, IsFoundBy, KeepsSearch}
+use Rattle.cs_project.specs.declared.search.Search.{Search}
+use Rattle.cs_fresh.specs.Searched.{KeepsForm}
+use Rattle.cs_fresh.specs.declared.file_search.FileSearch.{FileSearch}
+
+same_matches : (old new : Search) → KeepsSearch old new → (line : List ℕ) → Matches old line → Matches new line
+same_matches old new same line h = (
+  subst (λ t. HasMatch t line) (sym same.0) h.0,
+  λ whole. subst (λ t. HasWord t line) (sym same.1) (h.1 (sym same.2 ∙ whole)),
+)
+
+matches_same : (old new : Search) → KeepsSearch old new → (line : List ℕ) → Matches new line → Matches old line
+matches_same old new same line h = (
+  subst (λ t. HasMatch t line) same.0 h.0,
+  λ whole. subst (λ t. HasWord t line) same.1 (h.1 (same.2 ∙ whole)),
+)
+
+-- a finding of one is a finding of the other
+pub still_found : (old new : Search) → KeepsSearch old new → (finding : Finding) → IsFoundBy finding old → IsFoundBy finding new
+still_found old new same finding found = (
+  λ line. (λ e. same_matches old new same line ((found.0 line).0 e), λ h. (found.0 line).1 (matches_same old new same line h)),
+  λ line. subst (λ whole. AreSpansFrom true whole new.finder.tree line 0 0 (finding.spans line)) (sym same.2)
+      (subst (λ t. AreSpansFrom true old.whole t line 0 0 (finding.spans line)) (sym same.1) (found.1 line)),
+)
+
+pub form_again : (a b c : FileSearch) → KeepsForm a b → KeepsForm b c → KeepsForm a c
+form_again a b c p q = (
+  q.0 ∙ p.0,
+  q.1 ∙ p.1,
+  ((q.2).0 ∙ (p.2).0, (q.2).1 ∙ (p.2).1, (q.2).2 ∙ (p.2).2, λ none. (p.2).3 ((q.2).3 none)),
+  λ right. p.3 (q.3 right),
+)
+
+pub form_itself : (a : FileSearch) → KeepsForm a a
+form_itself a = (refl, refl, (refl, refl, refl, λ none. none), λ right. right)

@@ -1,0 +1,51 @@
+-- What a search prints for items one after another.
+use Rattle.std.specs.Prelude.{ℕ, ◌≡◌, Bool, false, ◌||◌, List, [], ◌∷◌, ◌++◌}
+use Rattle.cs_tree.specs.Snapshot.{Item, folder, file, cut, other, bad}
+use Rattle.cs_project.specs.Findings.{Finding, IsFoundBy, KeepsSearch}
+use Rattle.cs_project.specs.Project.{ItemShown, nothing_shown, text_shown}
+use Rattle.cs_project.specs.Shown.{between, following}
+use Rattle.cs_project.specs.declared.form.ShowOptions.{ShowOptions}
+use Rattle.cs_fresh.specs.declared.file_search.FileSearch.{FileSearch}
+
+-- An item, after the name that it is printed with.
+abbrev pub NamedItem : Type 0
+NamedItem = List ℕ × Item
+
+module _ (options : ShowOptions) (binary : Bool) (finding : Finding) where
+  -- Only a file prints anything.
+  abbrev pub item_groups : List ℕ → Item → ItemShown
+  item_groups name (folder names unnamed) = nothing_shown
+  item_groups name (file text) = text_shown options binary finding name text
+  item_groups name (cut text) = text_shown options binary finding name text
+  item_groups name other = nothing_shown
+  item_groups name (bad fault) = nothing_shown
+
+  abbrev pub shown_of : NamedItem → ItemShown
+  shown_of item = item_groups item.0 item.1
+
+  -- What is printed for items one after another. A line of an earlier item is marked, or none.
+  abbrev pub items_printed : Bool → List NamedItem → List ℕ
+  items_printed marked [] = []
+  items_printed marked (item ∷ items) =
+      following (between options) marked (shown_of item).groups ++ items_printed (marked || (shown_of item).marked) items
+
+  -- a line of an item is marked, or was before
+  abbrev pub are_marked : Bool → List NamedItem → Bool
+  are_marked marked [] = marked
+  are_marked marked (item ∷ items) = are_marked (marked || (shown_of item).marked) items
+
+-- The items were searched: what is printed for them was printed.
+abbrev pub PrintsItems : FileSearch → FileSearch → List NamedItem → List ℕ → List ℕ → Type 0
+PrintsItems old new items given later = (finding : Finding) → IsFoundBy finding old.search →
+    (later ≡ given ++ items_printed old.options old.binary finding old.marked items)
+    × (new.marked ≡ are_marked old.options old.binary finding old.marked items)
+
+-- The same, unless an error was reported, or the matches of a line were not all found.
+abbrev pub ShowsItems : FileSearch → FileSearch → List NamedItem → List ℕ → List ℕ → Type 0
+ShowsItems old new items given later =
+    new.reports.wrong ≡ false → new.search.stopped ≡ false → PrintsItems old new items given later
+
+-- The search is for the same, in the same form, and an error that was reported stays reported.
+abbrev pub KeepsForm : FileSearch → FileSearch → Type 0
+KeepsForm old new = (new.options ≡ old.options) × (new.binary ≡ old.binary) × KeepsSearch old.search new.search
+    × (new.reports.wrong ≡ false → old.reports.wrong ≡ false)

@@ -1,0 +1,59 @@
+// The lines of errors.
+ghost use Rattle.std.specs.Prelude.{◌≡◌, true, false, OnOk};
+ghost use Rattle.cs_fresh.specs.Reports.{MayReport};
+
+use crate::fault::FreshFault;
+use cs_tree::{Sink, TreeFault, write_all};
+use std::alloc::Global;
+
+/// Whether the line of an error was printed.
+#[derive(Clone, Copy, Drop)]
+pub struct Reports {
+    alloc: Global,
+    pub(crate) wrong: bool,
+}
+
+impl Reports {
+    /// No line yet.
+    pub(crate) fn new(alloc: Global) -> Reports
+        ensures { result.wrong ≡ false }
+    {
+        Reports {
+            alloc,
+            wrong: false,
+        }
+    }
+
+    /// Prints the line of an error of a file.
+    pub(crate) fn print<E: Sink>(
+        &mut self,
+        name: &str,
+        why: &str,
+        err: &mut E,
+    ) -> Result<(), FreshFault>
+        ensures reported { self.new.wrong ≡ true }
+    {
+        self.wrong = true;
+        let line = format!(in self.alloc; "cs: {name}: {why}\n")?;
+        write_all(err, line.as_bytes())?;
+        Ok(())
+    }
+
+    /// Reports a file that cannot be opened, unless it is gone or is the output.
+    pub(crate) fn unopened<E: Sink>(
+        &mut self,
+        name: &str,
+        fault: TreeFault,
+        err: &mut E,
+    ) -> Result<(), FreshFault>
+        ensures reported { OnOk result (MayReport fault self.old.wrong self.new.wrong) }
+        ensures stays { self.new.wrong ≡ false → self.old.wrong ≡ false }
+    {
+        match fault {
+            TreeFault::Missing | TreeFault::Output => Ok(()),
+            TreeFault::Denied => self.print(name, "permission denied", err),
+            TreeFault::Failed => self.print(name, "cannot be read", err),
+            TreeFault::Memory => Err(FreshFault::Memory),
+        }
+    }
+}

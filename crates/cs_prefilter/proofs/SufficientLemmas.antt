@@ -1,7 +1,7 @@
 -- What is known of a line where a word occurs in it.
 use Rattle.std.proofs.Common.{◌≡◌, ℕ, zero, suc, ◌+◌, ◌-◌, ◌<◌, ◌≤◌, inl, inr, Bool, true, false, List, [], length, get_or, refl, sym, ap, ◌∙◌, arith}
 use Rattle.std.specs.Prelude.{not, vec_len}
-use Rattle.std.proofs.lemmas.Bool.{cases_lt, cases_eq, cases_Bool, false≢true}
+use Rattle.std.proofs.lemmas.Bool.{cases_lt, cases_Bool, false≢true}
 use Rattle.cs_syntax.specs.Matching.{Tree, one_of, line_start, line_end, word_edge, is_word, is_at_word_boundary, member, word_before, word_after, MatchesSpan, HasMatch}
 use Rattle.cs_syntax.specs.Members.{IsOnly}
 use Rattle.cs_prefilter.specs.declared.word.Word.{Word}

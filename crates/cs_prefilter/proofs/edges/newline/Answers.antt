@@ -1,6 +1,5 @@
-use Rattle.std.proofs.Common.{◌≡◌, ◌&&◌, nat_eq, List, Bool, ◌∙◌, ap, rules}
-use Rattle.std.specs.Prelude.{not}
-use Rattle.cs_syntax.specs.Matching.{member, is_word}
+use Rattle.std.proofs.Common.{nat_eq, List, Bool, ◌∙◌, ap, rules}
+use Rattle.cs_syntax.specs.Matching.{member}
 use Rattle.cs_syntax.proofs.ByteSetLemmas.{set_of_at}
 use Rattle.cs_prefilter.proofs.edges.newline.Goals as goal
 

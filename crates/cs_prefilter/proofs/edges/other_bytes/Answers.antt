@@ -1,4 +1,4 @@
-use Rattle.std.proofs.Common.{◌≡◌, ◌&&◌, nat_eq, List, Bool, ◌∙◌, ap, rules}
+use Rattle.std.proofs.Common.{List, Bool, ◌∙◌, ap, rules}
 use Rattle.std.specs.Prelude.{not}
 use Rattle.cs_syntax.specs.Matching.{member, is_word}
 use Rattle.cs_syntax.proofs.ByteSetLemmas.{set_of_at}

@@ -210,8 +210,8 @@ int32_t cs_pattern_candidates(cs_pattern *slot, const uint8_t *index, size_t len
                               size_t *count);
 
 /* The same ids from an id on, a page of them: CS_OK and all of them, or CS_STOPPED and the first `room`. The next page begins at the
- * last one + 1. A posting list is read from its start to its end, so a page takes the time and the memory of all candidates, and any
- * damage is found. CS_I_LIST, CS_MEMORY and CS_MISUSE leave all. */
+ * last one + 1. A posting list is read from its start to its end, so that any damage is found; ids are made for the page alone.
+ * CS_I_LIST, CS_MEMORY and CS_MISUSE leave all. */
 int32_t cs_pattern_candidates_from(cs_pattern *slot, const uint8_t *index, size_t len, uint32_t from, uint32_t *ids, size_t room,
                                    size_t *count);
 

@@ -283,7 +283,7 @@ impl Pattern {
         })
     }
 
-    /// At most `room` of these ids, those from an id on, and whether there are more. A page takes the time of all candidates.
+    /// At most `room` of these ids, those from an id on, and whether there are more. Each posting list is read whole.
     pub fn candidates_from(&mut self, index: &Index<'_>, from: u32, room: usize) -> Result<(Vec<u32>, bool), Error> {
         let bytes = index.bytes;
         // (there are no more ids than names)

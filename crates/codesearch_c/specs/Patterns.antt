@@ -1,5 +1,5 @@
 -- What the calls over a pattern answer.
-use Rattle.std.specs.Prelude.{◌≡◌, ◌≢◌, nat_le, if◌then◌else◌, ℕ, ℤ, pos, Bool, true, false, List, length, filter, count_by, Option, Some, None}
+use Rattle.std.specs.Prelude.{◌≡◌, ◌≢◌, nat_le, if◌then◌else◌, ℕ, ℤ, pos, Bool, true, false, List, length, count_by, Option, Some, None}
 use Rattle.std.specs.Str.{IsUtf8}
 use Rattle.cs_syntax.specs.Matching.{Tree, HasMatch}
 use Rattle.cs_syntax.specs.Parsing.{ParsesAs}
@@ -13,6 +13,7 @@ use Rattle.cs_trigram.specs.QueryOf.{IsQueryOf}
 use Rattle.cs_trigram.specs.declared.queries.Query.{Query}
 use Rattle.cs_index.specs.OpenedParts.{Parts}
 use Rattle.cs_index.specs.Candidates.{candidates_of}
+use Rattle.cs_index.specs.CandidatePages.{candidates_from}
 use Rattle.cs_index.specs.Answerable.{is_answerable}
 use Rattle.cs_index.specs.Postings.{IsListFault}
 use Rattle.cs_index.specs.declared.fault.IndexFault.{IndexFault}
@@ -83,11 +84,7 @@ pub data IsCandidatesCode (parts : Parts) (query : Query) (old new : List ℕ) (
   failed : (fault : IndexFault) → IsListFault (is_answerable parts query) fault → code ≡ index_code fault → new ≡ old →
       count ≡ old_count → IsCandidatesCode parts query old new old_count count code
 
--- the ids of the candidates from an id on
-abbrev pub candidates_from : Parts → Query → ℕ → List ℕ
-candidates_from parts query from = filter (λ id. nat_le from id) (candidates_of parts query)
-
--- the first of them are copied; or a list is damaged, or memory is refused, and nothing changes
+-- the first candidates from an id on are copied; or a list is damaged, or memory is refused, and nothing changes
 pub data IsPageCode (parts : Parts) (query : Query) (from : ℕ) (old new : List ℕ) (old_count count : ℕ) (code : ℤ) : Type 0 where
   given : IsPage (candidates_from parts query from) old new count code → is_answerable parts query ≡ true →
       IsPageCode parts query from old new old_count count code

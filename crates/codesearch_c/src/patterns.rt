@@ -174,11 +174,9 @@ impl HeldPattern {
             IsPageCode parts self.now.query from ids.old ids.new count.old count.new result) }
     {
         match Index::reopen(index) {
-            Ok(opened) => match opened.candidates(alloc, &self.query) {
-                Ok(mut found) => {
-                    found.retain(|id| from <= *id);
-                    copy_first(&found, ids, count)
-                }
+            // One id more than there is room for says whether there are more.
+            Ok(opened) => match opened.candidates_from(alloc, &self.query, from, ids.len() + 1) {
+                Ok(found) => copy_first(&found, ids, count),
                 Err(fault) => index_code(fault),
             },
             Err(fault) => index_code(fault),

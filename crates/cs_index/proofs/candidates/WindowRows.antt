@@ -256,16 +256,24 @@ filter_alike p q a (suc n) f =
     ∙ f (suc k) (omega (arith, h)) ∙ ap q (sym e)) in
     λ i. cond (here i) (a ∷ later i) (later i)
 
+-- the ids that pass a test, in two ranges
+pub filter_split : (test : ℕ → Bool) (from middle to : ℕ) → from ≤ middle → middle ≤ to →
+    filter test (range_with_len from (to - from))
+    ≡ filter test (range_with_len from (middle - from)) ++ filter test (range_with_len middle (to - middle))
+filter_split test from middle to low high =
+    ap (λ n. filter test (range_with_len from n)) (let z : to - from ≡ middle - from + (to - middle) = omega (arith, low, high) in z)
+    ∙ ap (filter test) (range_split from (middle - from) (to - middle)
+    ∙ ap (λ k. range_with_len from (middle - from) ++ range_with_len k (to - middle))
+    (let z : from + (middle - from) ≡ middle = omega (arith, low) in z))
+    ∙ filter-append test (range_with_len from (middle - from)) (range_with_len middle (to - middle))
+
 -- the ids so far, and those of the window
-pub window_more : (test flag : ℕ → Bool) (start end : ℕ) (ids new : List ℕ) → start ≤ end →
-    ids ≡ filter test (range_with_len 0 start) → new ≡ ids ++ filter flag (range_with_len start (end - start)) →
-    ((k : ℕ) → start + k < end → flag (start + k) ≡ test (start + k)) → new ≡ filter test (range_with_len 0 end)
-window_more test flag start end ids new h so_far is alike =
+pub window_more : (test flag : ℕ → Bool) (from start end : ℕ) (ids new : List ℕ) → from ≤ start → start ≤ end →
+    ids ≡ filter test (range_with_len from (start - from)) → new ≡ ids ++ filter flag (range_with_len start (end - start)) →
+    ((k : ℕ) → start + k < end → flag (start + k) ≡ test (start + k)) → new ≡ filter test (range_with_len from (end - from))
+window_more test flag from start end ids new low h so_far is alike =
     is ∙ (λ i. so_far i ++ filter_alike flag test start (end - start) (λ k below. alike k (omega (arith, below, h))) i)
-    ∙ sym (filter-append test (range_with_len 0 start) (range_with_len start (end - start)))
-    ∙ ap (filter test) (ap (λ k. range_with_len 0 start ++ range_with_len k (end - start))
-    (let z : start ≡ 0 + start = omega arith in z) ∙ sym (range_split 0 start (end - start))
-    ∙ ap (range_with_len 0) (let z : start + (end - start) ≡ end = omega (arith, h) in z))
+    ∙ sym (filter_split test from start end low h)
 
 pub filter_false : (p : ℕ → Bool) (a n : ℕ) → ((k : ℕ) → a ≤ k → k < a + n → p k ≡ false) → filter p (range_with_len a n) ≡ []
 filter_false p a zero f = refl
@@ -274,17 +282,14 @@ filter_false p a (suc n) f =
     ∙ filter_false p (a + 1) n (λ k from below. f k (omega (arith, from)) (omega (arith, below)))
 
 -- ids for which the test fails
-pub window_none : (test : ℕ → Bool) (start end : ℕ) (ids : List ℕ) → start ≤ end →
-    ids ≡ filter test (range_with_len 0 start) → ((id : ℕ) → start ≤ id → id < end → test id ≡ false) →
-    ids ≡ filter test (range_with_len 0 end)
-window_none test start end ids h so_far none =
-    so_far ∙ sym (append-nil (filter test (range_with_len 0 start)))
-    ∙ ap (λ t. filter test (range_with_len 0 start) ++ t)
-    (sym (filter_false test start (end - start) (λ k from below. none k from (omega (arith, below, h)))))
-    ∙ sym (filter-append test (range_with_len 0 start) (range_with_len start (end - start)))
-    ∙ ap (filter test) (ap (λ k. range_with_len 0 start ++ range_with_len k (end - start))
-    (let z : start ≡ 0 + start = omega arith in z) ∙ sym (range_split 0 start (end - start))
-    ∙ ap (range_with_len 0) (let z : start + (end - start) ≡ end = omega (arith, h) in z))
+pub window_none : (test : ℕ → Bool) (from start end : ℕ) (ids : List ℕ) → from ≤ start → start ≤ end →
+    ids ≡ filter test (range_with_len from (start - from)) → ((id : ℕ) → start ≤ id → id < end → test id ≡ false) →
+    ids ≡ filter test (range_with_len from (end - from))
+window_none test from start end ids low h so_far none =
+    so_far ∙ sym (append-nil (filter test (range_with_len from (start - from))))
+    ∙ ap (λ t. filter test (range_with_len from (start - from)) ++ t)
+    (sym (filter_false test start (end - start) (λ k after below. none k after (omega (arith, below, h)))))
+    ∙ sym (filter_split test from start end low h)
 
 -- a required list lacks the id
 pub lacks_required : (nodes : List FormNode) (root : ℕ) (bits : List Bool) (rarest : Option ℕ) →

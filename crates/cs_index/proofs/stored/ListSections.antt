@@ -1,5 +1,5 @@
 -- The lists of the trigrams of a query, in a section of a store.
-use Rattle.std.proofs.Common.{◌≡◌, ℕ, ◌-◌, ◌/◌, true, List, [], ◌∷◌, length, map, drop, refl, sym, ap, ◌∙◌, inl, Result, Ok, Err, Vec, Global, arith, length-drop, length-take}
+use Rattle.std.proofs.Common.{◌≡◌, ℕ, ◌-◌, ◌/◌, true, List, [], ◌∷◌, length, map, take, drop, refl, sym, ap, ◌∙◌, inl, Result, Ok, Err, Vec, Global, arith, length-drop, length-take}
 use Rattle.std.proofs.lemmas.List.{take_all}
 use Rattle.std.specs.Prelude.{option_map, unwrap_or, IfErr, IfOk}
 use Rattle.std.specs.List.{AllByRecursion}
@@ -10,8 +10,9 @@ use Rattle.cs_index.specs.declared.reading.section_slices.SectionSlices.{Section
 use Rattle.cs_index.specs.declared.reading.section_offsets.SectionOffsets.{SectionOffsets}
 use Rattle.cs_index.specs.OpenedParts.{Parts, ids_read}
 use Rattle.cs_index.specs.Postings.{nothing_read, read_for, IsListFault}
-use Rattle.cs_index.specs.Answerable.{is_answerable, AreCandidates}
-use Rattle.cs_index.specs.Candidates.{candidates_of}
+use Rattle.cs_index.specs.Answerable.{is_answerable}
+use Rattle.cs_index.specs.CandidatePages.{candidates_from, AreOnPage}
+use Rattle.cs_index.specs.declared.reading.candidates.Page.{Page}
 use Rattle.cs_index.specs.declared.fault.IndexFault.{IndexFault}
 use Rattle.cs_trigram.specs.declared.queries.Query.{Query}
 use Rattle.cs_index.specs.PostingLists.{Ids, read_list}
@@ -43,20 +44,21 @@ module _ (bytes : List ℕ) (s : ListSection) (parts : Parts) (has : HasLists by
 
 -- ---- the candidates that are returned
 
-pub ids_of : (query : Query) (parts : Parts) (answer : Result (Vec ℕ Global) IndexFault) →
-    AreCandidates query parts answer → IfOk answer (λ ids. ids.items ≡ candidates_of parts query)
-ids_of query parts (Ok ids) are = are.0
-ids_of query parts (Err fault) are = tt
+module _ (page : Page) (query : Query) (parts : Parts) where
+  pub ids_of : (answer : Result (Vec ℕ Global) IndexFault) → AreOnPage page query parts answer →
+      IfOk answer (λ ids. ids.items ≡ take page.most (candidates_from parts query page.from))
+  ids_of (Ok ids) are = are.0
+  ids_of (Err fault) are = tt
 
-pub whole_of_ok : (query : Query) (parts : Parts) (answer : Result (Vec ℕ Global) IndexFault) →
-    AreCandidates query parts answer → IfOk answer (λ _. is_answerable parts query ≡ true)
-whole_of_ok query parts (Ok ids) are = are.1
-whole_of_ok query parts (Err fault) are = tt
+  pub whole_of_ok : (answer : Result (Vec ℕ Global) IndexFault) → AreOnPage page query parts answer →
+      IfOk answer (λ _. is_answerable parts query ≡ true)
+  whole_of_ok (Ok ids) are = are.1
+  whole_of_ok (Err fault) are = tt
 
-pub fault_of_err : (query : Query) (parts : Parts) (answer : Result (Vec ℕ Global) IndexFault) →
-    AreCandidates query parts answer → IfErr answer (IsListFault (is_answerable parts query))
-fault_of_err query parts (Ok ids) are = tt
-fault_of_err query parts (Err fault) are = inl are
+  pub fault_of_err : (answer : Result (Vec ℕ Global) IndexFault) → AreOnPage page query parts answer →
+      IfErr answer (IsListFault (is_answerable parts query))
+  fault_of_err (Ok ids) are = tt
+  fault_of_err (Err fault) are = inl are
 
 -- the entries of an index in memory, in a store of its list index, and its lists, in a store of its posting lists
 pub entries_of : (list_index : List ℕ) → rises (entries_in list_index) ≡ true →

@@ -1,6 +1,6 @@
 // Candidates: the files whose trigrams match a query (Go: `PostingQuery` in index/read.go). The
 // query's form is evaluated over windows of ids, so that each posting list is read once.
-ghost use Rattle.std.specs.Prelude.{◌≡◌, ◌<◌, ◌≤◌, ◌+◌, ◌-◌, ◌⊎◌, ◌^◌, ◌++◌, ℕ, List, Some, map, true, false, filter, length, slice_index_or, IfOk, IfErr, OnOk, IfSome};
+ghost use Rattle.std.specs.Prelude.{◌≡◌, ◌<◌, ◌≤◌, ◌+◌, ◌-◌, ◌⊎◌, ◌^◌, ◌++◌, ℕ, List, Some, map, take, true, false, filter, length, slice_index_or, IfOk, IfErr, OnOk, IfSome};
 ghost use Rattle.std.specs.List.{AllByRecursion, AllZip, list_all, range_with_len};
 ghost use Rattle.cs_tree.specs.KeepsStore.{KeepsStore};
 ghost use Rattle.cs_tree.specs.Store.{part_of};
@@ -11,6 +11,7 @@ ghost use Rattle.cs_index.specs.PostingLists.{read_list};
 ghost use Rattle.cs_index.specs.Postings.{IsListFault};
 ghost use Rattle.cs_index.specs.Candidates.{candidates_of};
 ghost use Rattle.cs_index.specs.Answerable.{is_answerable, AreCandidates};
+ghost use Rattle.cs_index.specs.CandidatePages.{candidates_from, AreOnPage};
 ghost use Rattle.cs_index.specs.Form.{IsForm, number_matches};
 ghost use Rattle.cs_index.specs.Rows.{lists_are_whole, have_id, IsLeft, IsReadOn};
 ghost use Rattle.cs_index.specs.Stored.{StandsIn};
@@ -44,11 +45,34 @@ const LEAST_PIECE: usize = 64;
 /// And it has at most as many.
 const LONGEST_PIECE: usize = 1 << 16;
 
+/// Which candidates are listed: the first `most` of those from the id `from` on.
+#[derive(Clone, Copy)]
+pub(crate) struct Page {
+    from: u32,
+    most: usize,
+}
+
 impl<'a> Index<'a> {
     /// The ids of the names whose trigrams match the query, ascending. Each posting list that the
     /// query mentions is read to its end, so that damage is always found.
     pub fn candidates(&self, alloc: Global, query: &Query) -> Result<Vec<u32>, IndexFault>
         ensures ids { IfOk result (λ ids. ids.items ≡ candidates_of self.now query.now) }
+        ensures whole { IfOk result (λ _. is_answerable self.now query.now ≡ true) }
+        ensures fault { IfErr result (IsListFault (is_answerable self.now query.now)) }
+    {
+        self.candidates_from(alloc, query, 0, self.len() as usize)
+    }
+
+    /// The first `most` of the candidates from an id on. The lists are read to their ends, but rows
+    /// are made only from that id on, and no more once there are so many.
+    pub fn candidates_from(
+        &self,
+        alloc: Global,
+        query: &Query,
+        from: u32,
+        most: usize,
+    ) -> Result<Vec<u32>, IndexFault>
+        ensures ids { IfOk result (λ ids. ids.items ≡ take most (candidates_from self.now query.now from)) }
         ensures whole { IfOk result (λ _. is_answerable self.now query.now ≡ true) }
         ensures fault { IfErr result (IsListFault (is_answerable self.now query.now)) }
     {
@@ -67,7 +91,8 @@ impl<'a> Index<'a> {
         let Ok(listed) = listed_entries(alloc, &mut list_index, &entries, query) else {
             return Err(IndexFault::Memory);
         };
-        match candidates_in(alloc, &mut postings, &section, &listed, query) {
+        let page = Page { from, most };
+        match candidates_in(alloc, &mut postings, &section, &listed, query, page) {
             Ok(answer) => answer,
             Err(_) => Err(IndexFault::Memory),
         }
@@ -98,30 +123,44 @@ impl StoredIndex {
             name_count: self.name_count,
         };
         let listed = listed_entries(alloc, store, &entries, query)?;
-        candidates_in(alloc, store, &section, &listed, query)
+        let all = Page {
+            from: 0,
+            most: self.name_count as usize,
+        };
+        candidates_in(alloc, store, &section, &listed, query, all)
     }
 }
 
-/// The ids of the names whose trigrams match the query, by the lists of its entries in a section of
-/// the store.
+/// A page of the ids of the names whose trigrams match the query, by the lists of its entries in a
+/// section of the store.
 fn candidates_in<S: Store>(
     alloc: Global,
     store: &mut S,
     section: &ListSection,
     listed: &[Entry],
     query: &Query,
+    page: Page,
 ) -> Result<Result<Vec<u32>, IndexFault>, IoFault>
     requires section { IsSection section.now }
     requires ascend { Ascends (trigrams_listed listed.now) }
     ensures answers { (bytes : List ℕ) → S.model store.old ≡ Some bytes → (parts : Parts) →
         HasLists bytes section.now parts → rises parts.entries ≡ true →
-        AreListed query.now parts.entries listed.now → IfOk result (AreCandidates query.now parts) }
+        AreListed query.now parts.entries listed.now → IfOk result (AreOnPage page query.now parts) }
     ensures store { KeepsStore S.model S.size S.failed store.old store.new result }
 {
     let trigrams = trigrams_of(alloc, listed)?;
     let form = form_of(alloc, &trigrams, query)?;
     let mut lists = lists_of(alloc, store, section, listed)?;
-    let ids = meet(alloc, store, &form, &mut lists, section.name_count)?;
+    let end = section.name_count;
+    let start = page.from.min(end);
+    let ids = meet(
+        alloc,
+        store,
+        &form,
+        &mut lists,
+        IdWindow { start, end },
+        page.most,
+    )?;
     let answer = if finish_all(alloc, store, lists)? {
         Ok(ids)
     } else {
@@ -173,45 +212,44 @@ fn piece_size(lists: usize) -> usize
     (PIECES / lists.saturating_add(1)).clamp(LEAST_PIECE, LONGEST_PIECE)
 }
 
-/// The ids below `count` that match a form, window by window. A window begins at an id of the
-/// rarest list that the form requires.
+/// The first `most` of some ids that match a form, window by window. A window begins at an id of
+/// the rarest list that the form requires.
 fn meet<S: Store>(
     alloc: Global,
     store: &mut S,
     form: &Form,
     lists: &mut [StoredList],
-    count: u32,
+    all: IdWindow,
+    most: usize,
 ) -> Result<Vec<u32>, IoFault>
-    requires { IsForm (length lists.old) form.now.nodes.items }
+    requires form { IsForm (length lists.old) form.now.nodes.items }
+    requires order { all.start ≤ all.end }
     ensures ids { (bytes : List ℕ) → S.model store.old ≡ Some bytes →
-        AllByRecursion (IsLeft bytes) lists.old → IfOk result (λ ids. ids.items ≡
-        filter (λ id. number_matches (have_id bytes lists.old id) form.now.nodes.items form.now.root)
-        (range_with_len 0 count)) }
+        AllByRecursion (IsLeft bytes) lists.old → IfOk result (λ ids. ids.items ≡ take most
+        (filter (λ id. number_matches (have_id bytes lists.old id) form.now.nodes.items form.now.root)
+        (range_with_len all.start (all.end - all.start)))) }
     ensures lists { (bytes : List ℕ) → S.model store.old ≡ Some bytes →
         AllByRecursion (IsLeft bytes) lists.old →
-        IfOk result (λ _. AllZip (IsReadOn bytes count) lists.old lists.new) }
+        IfOk result (λ _. AllZip (IsReadOn bytes all.end) lists.old lists.new) }
     ensures store { KeepsStore S.model S.size S.failed store.old store.new result }
 {
     let mut ids = Vec::new(alloc);
     if form.root == NOTHING {
         return Ok(ids);
     }
-    let width = window_width(form.nodes.len(), lists.len());
+    let width = window_width(form.nodes.len(), lists.len(), most);
     let rarest = rarest_list(form, lists);
-    let all = IdWindow {
-        start: 0,
-        end: count,
-    };
     let mut start = next_start(alloc, store, lists, rarest, all)?;
-    'windows: while start < count {
-        let end = start + width.min(count - start);
+    'windows: while start < all.end && ids.len() < most {
+        let end = start + width.min(all.end - start);
         meet_window(alloc, store, form, lists, IdWindow { start, end }, &mut ids)?;
         let rest = IdWindow {
             start: end,
-            end: count,
+            end: all.end,
         };
         start = next_start(alloc, store, lists, rarest, rest)?;
     }
+    ids.truncate(most);
     Ok(ids)
 }
 
@@ -239,12 +277,13 @@ fn meet_window<S: Store>(
     Ok(())
 }
 
-/// The number of ids of a window, for a form with these numbers of nodes and lists.
-fn window_width(nodes: usize, lists: usize) -> u32
+/// The number of ids of a window, for a form with these numbers of nodes and lists, and for so many
+/// ids that match.
+fn window_width(nodes: usize, lists: usize, most: usize) -> u32
     ensures { 0 < result }
 {
     let rows = nodes.saturating_add(lists).saturating_add(1);
-    (FLAGS / rows).clamp(LEAST_WINDOW, LONGEST_WINDOW) as u32
+    (FLAGS / rows).min(most).clamp(LEAST_WINDOW, LONGEST_WINDOW) as u32
 }
 
 /// Appends the ids of a window that have a flag.

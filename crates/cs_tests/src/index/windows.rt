@@ -92,3 +92,40 @@ fn queries_without_a_rare_list(rt: HostRuntime) -> Result<(), Fail> {
     assert!(rt; index.candidates(rt.alloc(), &none)?.is_empty());
     Ok(())
 }
+
+/// A page begins at an id, and ends after so many or where the ids end.
+#[test]
+fn pages_of_candidates(rt: HostRuntime) -> Result<(), Fail> {
+    let bytes = index_of(rt.alloc())?;
+    let index = Index::open(&bytes)?;
+    let page = index.candidates_from(rt.alloc(), &rare(), 65_536, 2)?;
+    assert!(rt; page.as_slice() == [65_536u32, 131_071].as_slice());
+    let rest = index.candidates_from(rt.alloc(), &rare(), 65_537, 9)?;
+    assert!(rt; rest.as_slice() == [131_071u32, 139_999].as_slice());
+    let page = index.candidates_from(rt.alloc(), &common(), 70_000, 3)?;
+    assert!(rt; page.as_slice() == [70_000u32, 70_001, 70_002].as_slice());
+    let page = index.candidates_from(rt.alloc(), &common(), 1, 2_000)?;
+    assert!(rt; page.len() == 2_000 && page[1_999] == 2_000);
+    assert!(rt;
+        index
+            .candidates_from(rt.alloc(), &common(), 139_999, 3)?
+            .len()
+            == 1
+    );
+    assert!(rt;
+        index
+            .candidates_from(rt.alloc(), &common(), 0, 0)?
+            .is_empty()
+    );
+    assert!(rt;
+        index
+            .candidates_from(rt.alloc(), &common(), NAMES, 3)?
+            .is_empty()
+    );
+    assert!(rt;
+        index
+            .candidates_from(rt.alloc(), &common(), u32::MAX, 3)?
+            .is_empty()
+    );
+    Ok(())
+}

@@ -1,17 +1,20 @@
-use Rattle.std.proofs.Common.{◌≡◌, ◌<◌, ◌∙◌, ◌&&◌, ◌++◌, ap, sym, subst, refl, ℕ, List, true, length, map, take, drop, arith}
+use Rattle.std.proofs.Common.{◌≡◌, ◌<◌, ◌∙◌, ◌&&◌, ◌++◌, ap, sym, subst, refl, ℕ, Bool, List, true, length, map, take, drop, arith}
 use Rattle.std.proofs.lemmas.List.{length-map}
-use Rattle.std.specs.List.{AllByRecursion}
+use Rattle.std.specs.Prelude.{filter}
+use Rattle.std.specs.List.{AllByRecursion, range_with_len}
 use Rattle.cs_index.specs.AscendingIds.{max_ids}
 use Rattle.cs_index.specs.OpenedParts.{Parts}
 use Rattle.cs_trigram.specs.Trigram.{has, Ascends}
-use Rattle.cs_index.specs.Answerable.{mentions, AreCandidates}
+use Rattle.cs_index.specs.Answerable.{mentions}
+use Rattle.cs_index.specs.CandidatePages.{AreOnPage}
 use Rattle.cs_index.specs.Postings.{has_entry, read_for}
-use Rattle.cs_index.specs.Form.{IsForm, IsNumberOf}
-use Rattle.cs_index.specs.Rows.{lists_are_whole}
+use Rattle.cs_index.specs.Form.{IsForm, IsNumberOf, number_matches}
+use Rattle.cs_index.specs.Rows.{have_id, lists_are_whole}
 use Rattle.cs_index.specs.StoredLists.{HasLists, Holds, IsSection, ListState, ids_left}
 use Rattle.cs_index.specs.declared.reading.stored_entries.Entry.{Entry}
 use Rattle.cs_index.specs.declared.reading.stored_list.ListSection.{ListSection}
 use Rattle.cs_index.proofs.candidates.MentionedLists.{all_left, ids_are, whole_answers}
+use Rattle.cs_index.proofs.candidates.PageLemmas.{page_of}
 use Rattle.cs_index.proofs.candidates.WindowRows.{all_held, taken_back, whole_alike}
 use Rattle.cs_index.proofs.stored.ListSections.{listed_read}
 use Rattle.cs_index.proofs.reading.candidates.candidates_in.Goals as goal
@@ -46,24 +49,28 @@ returns-clause-answers g c bytes m parts has' up listed =
     elim c.if-branch.branch [
       | then-branch w ↦
           let all : lists_are_whole bytes lists ≡ true = sym whole ∙ w.if-branch.true in
-          subst (AreCandidates c.args.query.now parts) (sym w.answer-is) (
-            ids_are bytes parts up c.args.query.now trigrams are lists is c.in_ok-form.form.nodes.items
-                c.in_ok-form.form.root s.name_count c.in_ok-ids.ids.items (sym has'.names)
-                (subst (λ (gs : List ℕ). IsNumberOf gs c.in_ok-form.form.nodes.items c.args.query.now
-                c.in_ok-form.form.root) c.deref.ensures.value c.in_ok-form.ensures.number) all
-                (c.in_ok-ids.ensures.ids bytes modelled left),
+          let nodes = c.in_ok-form.form.nodes.items in
+          let test : ℕ → Bool = λ id. number_matches (have_id bytes lists id) nodes c.in_ok-form.form.root in
+          let met = ids_are bytes parts up c.args.query.now trigrams are lists is nodes
+          c.in_ok-form.form.root s.name_count (filter test (range_with_len 0 s.name_count)) (sym has'.names)
+          (subst (λ (gs : List ℕ). IsNumberOf gs nodes c.args.query.now
+          c.in_ok-form.form.root) c.deref.ensures.value c.in_ok-form.ensures.number) all refl in
+          subst (AreOnPage c.args.page c.args.query.now parts) (sym w.answer-is) (
+            page_of parts c.args.query.now test c.args.page c.min-start.result s.name_count c.in_ok-ids.ids.items met
+                (omega (arith, c.min-start.ensures)) (omega (arith, c.min-start.ensures))
+                (λ k low below. omega (arith, low, below, c.min-start.ensures)) (c.in_ok-ids.ensures.ids bytes modelled left),
             sym (whole_answers bytes parts up c.args.query.now trigrams are lists is) ∙ all,
           )
       | else-branch w ↦
-          subst (AreCandidates c.args.query.now parts) (sym w.answer-is)
+          subst (AreOnPage c.args.page c.args.query.now parts) (sym w.answer-is)
           (refl, sym (whole_answers bytes parts up c.args.query.now trigrams are lists is) ∙ sym whole ∙ w.if-branch.false)
     ]
 
 pub form_of-requires : goal.form_of-requires
 form_of-requires g c = subst Ascends (sym (c.deref.ensures.value ∙ c.in_ok-trigrams.ensures)) c.requires.ascend
 
-pub meet-requires : goal.meet-requires
-meet-requires g c =
+pub meet-requires-clause-form : goal.meet-requires-clause-form
+meet-requires-clause-form g c =
     subst (λ n. IsForm n c.in_ok-form.form.nodes.items)
     (sym (ap length c.deref_mut.ensures.value ∙ c.in_ok-lists.ensures.count
     ∙ sym (length-map c.args.listed.now (λ (e : Entry). e.trigram))

@@ -7,10 +7,11 @@ use Rattle.cs_index.proofs.reading.candidates.meet.Given as goal
 
 abbrev pub invariant-windows : goal.invariant-windows
 invariant-windows g l = record {
-  within : l.start ≤ l.count;
+  low : l.all.start ≤ l.start;
+  high : l.start ≤ l.all.end;
   ids : (bytes : List ℕ) → g.S.Store.model l.fn.store ≡ Some bytes → AllByRecursion (IsLeft bytes) l.fn.lists →
       l.ids.items ≡ filter (λ id. number_matches (have_id bytes l.fn.lists id) l.form.nodes.items l.form.root)
-      (range_with_len 0 l.start);
+      (range_with_len l.all.start (l.start - l.all.start));
   lists : (bytes : List ℕ) → g.S.Store.model l.fn.store ≡ Some bytes → AllByRecursion (IsLeft bytes) l.fn.lists →
       AllZip (IsReadOn bytes l.start) l.fn.lists l.lists;
   keeps : g.S.Store.model l.store ≡ g.S.Store.model l.fn.store;
@@ -19,4 +20,4 @@ invariant-windows g l = record {
 }
 
 abbrev pub decreases-windows : goal.decreases-windows
-decreases-windows g l = l.count - l.start
+decreases-windows g l = l.all.end - l.start

@@ -7,6 +7,7 @@ use Rattle.cs_index.specs.StoredOpening.{AreAscendingOffsets}
 use Rattle.cs_index.specs.declared.reading.section_offsets.SectionOffsets.{SectionOffsets}
 use Rattle.cs_index.specs.declared.reading.stored_entries.Entry.{Entry}
 use Rattle.cs_index.proofs.decoding.DecodableBytesOpen.{rise_from, Rise}
+use Rattle.cs_index.proofs.candidates.PageLemmas.{all_read}
 use Rattle.cs_index.proofs.stored.ListSections.{entries_are, list_index, stored_entries, stored_lists, stored_rise}
 use Rattle.cs_index.proofs.reading.stored.StoredIndex.candidates.Goals as goal
 
@@ -25,9 +26,10 @@ returns-clause-answers g c bytes m parts stands' =
     let order = c.self.invariant.1 in
     let listed = c.in_ok-listed.ensures.listed bytes m (list_index bytes _ parts stands order)
     (stored_entries bytes _ parts stands order) in
-    c.candidates_in.ensures.answers bytes (c.listed_entries.ensures.store.0 ∙ m) parts
-    (stored_lists bytes _ parts stands order)
+    let lists = stored_lists bytes _ parts stands order in
+    all_read parts c.args.query.now c.self.inside.name_count c.candidates_in.result (sym lists.names)
+    (c.candidates_in.ensures.answers bytes (c.listed_entries.ensures.store.0 ∙ m) parts lists
     (subst (λ (es : List ListEntry). rises es ≡ true) (entries_are bytes _ parts stands order) (stored_rise bytes _ parts stands order))
     (subst (λ (ls : List Entry). AreListed c.args.query.now parts.entries ls) (sym c.deref.ensures.value)
     (subst (λ (es : List ListEntry). AreListed c.args.query.now es c.in_ok-listed.listed.items)
-    (entries_are bytes _ parts stands order) listed))
+    (entries_are bytes _ parts stands order) listed)))

@@ -236,8 +236,14 @@ fn user_rules_are_those_of_the_named_file(rt: HostRuntime) -> Result<(), Fail> {
     ];
     for (settings, want) in [
         ("[user]\n\texcludesFile = /h/own ignore\n", "/r/x.b\n"),
-        ("[Core]\n\tExcludesFile = \"~/own ignore\" ; mine\n", "/r/x.a\n"),
-        ("[core] excludesfile=~/own ignore \r\n[x]\nexcludesFile=y\n", "/r/x.a\n"),
+        (
+            "[Core]\n\tExcludesFile = \"~/own ignore\" ; mine\n",
+            "/r/x.a\n",
+        ),
+        (
+            "[core] excludesfile=~/own ignore \r\n[x]\nexcludesFile=y\n",
+            "/r/x.a\n",
+        ),
         (
             "[core]\nexcludesFile = /h/none\nexcludesFile = /h/own\" ig\"nore#\n",
             "/r/x.a\n",

@@ -1,15 +1,24 @@
 -- Inside a search: which lines were tested, and what was printed for them.
-use Rattle.std.specs.Prelude.{ℕ, ◌+◌, ◌<◌, ◌≤◌, ◌≡◌, ◌⊎◌, nat_lt, true, false, if◌then◌else◌, Bool, List, [], ◌∷◌, ◌++◌, length, Option, Result, MatchBool, MatchResult}
+use Rattle.std.specs.Prelude.{ℕ, ◌+◌, ◌<◌, ◌≤◌, ◌≡◌, ◌^◌, ◌⊎◌, nat_lt, true, false, if◌then◌else◌, Bool, List, [], ◌∷◌, ◌++◌, length, Option, Result, MatchBool, MatchResult}
 use Rattle.std.specs.List.{flat_map}
+use Rattle.cs_tree.specs.FailureCount.{count_after}
 use Rattle.cs_tree.specs.Sinks.{Grows, SinkModel}
 use Rattle.cs_args.specs.declared.jobs.Style.{Style}
 use Rattle.cs_search.specs.declared.grep_fault.GrepFault.{GrepFault}
 use Rattle.cs_search.specs.declared.tally.Tally.{Tally}
+use Rattle.cs_search.specs.GrepFaults.{is_grep_failure}
 use Rattle.cs_syntax.specs.Matching.{Tree}
 use Rattle.cs_match.specs.Deciding.{Decides}
 use Rattle.cs_match.specs.Lines.{newline, terminated_lines}
+use Rattle.cs_match.specs.Skipping.{AreWholeLines}
 use Rattle.cs_tree.specs.TakesPrefix.{TakesPrefix}
 use Rattle.cs_search.specs.Report.{MatchingLine, matches_from, match_line, count_line, any_match, matches_output}
+
+-- `Claim` holds of the output before and after, and of the result; and the output counts a failed write.
+abbrev pub WritesTo : {O A : Type 0} → (O → Option SinkModel) → (O → ℕ) → O → O → Result A GrepFault →
+    (Option SinkModel → Option SinkModel → Result A GrepFault → Type 0) → Type 0
+WritesTo model failed out out' result Claim =
+    Claim (model out) (model out') result × (failed out' ≡ count_after is_grep_failure result (failed out))
 
 -- what is printed for a matching line
 unfoldable pub match_output : Style → List ℕ → MatchingLine → List ℕ
@@ -32,6 +41,17 @@ CountsBlock style before after block = CountsLines style before.lines after.line
 -- no line has matched, if names are listed
 abbrev pub IsUnlisted : Style → Tally → Type 0
 IsUnlisted style tally = style.list ≡ true → tally.matches ≡ 0
+
+-- the search goes on after a block
+abbrev pub GoesOn : Style → Tally → Tally → List ℕ → Type 0
+GoesOn style before after block = CountsBlock style before after block × IsUnlisted style after
+
+abbrev pub HasCountedNone : Tally → Type 0
+HasCountedNone tally = (tally.lines ≡ 0) × (tally.matches ≡ 0)
+
+-- The lines of the block are whole, and can be counted.
+abbrev pub IsNextBlock : Tally → List ℕ → Type 0
+IsNextBlock tally block = AreWholeLines block × (tally.lines + length block < 2 ^ 64)
 
 -- These lines were tested after those that `before` counts: the matching ones are counted, and their output was written.
 pub record Tests (style : Style) (name : List ℕ) (has_match : List ℕ → Bool) (lines : List (List ℕ))
@@ -75,33 +95,30 @@ EndsPrefix style name has_match lines before after sink later =
     ⊎ ((tested : Option SinkModel) × Tests style name has_match lines before after sink tested
     × TakesPrefix (total style name after.matches) tested later)
 
--- by each test that decides which lines match
-module _ (tree : Tree) (style : Style) (name : List ℕ) (lines : List (List ℕ)) (before after : Tally) (sink later : Option SinkModel) where
-  abbrev pub TestsPrefixBy : Type 0
-  TestsPrefixBy = (has_match : List ℕ → Bool) → Decides has_match tree → TestsPrefix style name has_match lines (before.lines + 1) sink later
+-- a prefix of the output of the matching lines was written, by each test that decides which lines match
+abbrev pub TestsPrefixBy : Tree → Style → List ℕ → List (List ℕ) → Tally → Option SinkModel → Option SinkModel → Type 0
+TestsPrefixBy tree style name lines before sink later =
+    (has_match : List ℕ → Bool) → Decides has_match tree → TestsPrefix style name has_match lines (before.lines + 1) sink later
 
-  -- The lines were tested. On error a prefix of their output was written.
-  abbrev pub TestsBy : {A : Type 0} → Result A GrepFault → Type 0
-  TestsBy result = MatchResult result
-      (λ _. (has_match : List ℕ → Bool) → Decides has_match tree → Tests style name has_match lines before after sink later)
-      (λ _. TestsPrefixBy)
+-- The lines were tested. On error a prefix of their output was written.
+abbrev pub TestsBy : {A : Type 0} → Tree → Style → List ℕ → List (List ℕ) → Tally → Tally → Option SinkModel →
+    Option SinkModel → Result A GrepFault → Type 0
+TestsBy tree style name lines before after sink later result = MatchResult result
+    (λ _. (has_match : List ℕ → Bool) → Decides has_match tree → Tests style name has_match lines before after sink later)
+    (λ _. TestsPrefixBy tree style name lines before sink later)
 
-  -- The same, unless the answer says, by `is_listed`, that a line was listed.
-  abbrev pub TestsUnlessListed : {A : Type 0} → (A → Bool) → Result A GrepFault → Type 0
-  TestsUnlessListed is_listed result = MatchResult result
-      (λ answer. (has_match : List ℕ → Bool) → Decides has_match tree → MatchBool (is_listed answer)
-      (IsListed style name has_match lines (before.lines + 1) after sink later)
-      (Tests style name has_match lines before after sink later))
-      (λ _. TestsPrefixBy)
+-- The same of the lines of a block that have ended, unless the answer says, by `is_listed`, that one was listed.
+abbrev pub TestsBlock : {A : Type 0} → (A → Bool) → Tree → Style → List ℕ → List ℕ → Tally → Tally → Option SinkModel →
+    Option SinkModel → Result A GrepFault → Type 0
+TestsBlock is_listed tree style name block before after sink later result = MatchResult result
+    (λ answer. (has_match : List ℕ → Bool) → Decides has_match tree → MatchBool (is_listed answer)
+    (IsListed style name has_match (terminated_lines block) (before.lines + 1) after sink later)
+    (Tests style name has_match (terminated_lines block) before after sink later))
+    (λ _. TestsPrefixBy tree style name (terminated_lines block) before sink later)
 
-  -- The lines were tested at the end of an input. On error a prefix of the output was written.
-  abbrev pub EndsBy : {A : Type 0} → Result A GrepFault → Type 0
-  EndsBy result = MatchResult result
-      (λ _. (has_match : List ℕ → Bool) → Decides has_match tree → Ends style name has_match lines before after sink later)
-      (λ _. (has_match : List ℕ → Bool) → Decides has_match tree → EndsPrefix style name has_match lines before after sink later)
-
--- The lines of a block that have ended were tested, unless one was listed.
-abbrev pub TestsBlock : {A : Type 0} → Tree → Style → List ℕ → List ℕ → Tally → Tally → Option SinkModel → Option SinkModel →
-    (A → Bool) → Result A GrepFault → Type 0
-TestsBlock tree style name block before after sink later is_listed result =
-    TestsUnlessListed tree style name (terminated_lines block) before after sink later is_listed result
+-- The lines were tested at the end of an input. On error a prefix of the output was written.
+abbrev pub EndsBy : {A : Type 0} → Tree → Style → List ℕ → List (List ℕ) → Tally → Tally → Option SinkModel →
+    Option SinkModel → Result A GrepFault → Type 0
+EndsBy tree style name lines before after sink later result = MatchResult result
+    (λ _. (has_match : List ℕ → Bool) → Decides has_match tree → Ends style name has_match lines before after sink later)
+    (λ _. (has_match : List ℕ → Bool) → Decides has_match tree → EndsPrefix style name has_match lines before after sink later)

@@ -4,7 +4,7 @@ ghost use Rattle.cs_tree.specs.Failures.{count_if};
 ghost use Rattle.cs_search.specs.Buffer.{pending_bytes};
 ghost use Rattle.cs_search.specs.GrepFaults.{CountsBoth};
 ghost use Rattle.cs_search.specs.Progress.{StopsHere, Stops, UnlessListed, TestsInputBy, has_stop_failed};
-ghost use Rattle.cs_search.specs.TestedLines.{IsUnlisted};
+ghost use Rattle.cs_search.specs.TestedLines.{HasCountedNone, IsUnlisted};
 ghost use Rattle.cs_search.specs.SearchedWork.{SearchesLines, ReadsOne};
 
 use crate::buffer::LineBuffer;
@@ -27,8 +27,7 @@ pub(crate) fn search_input<R: Source, O: Sink>(
     out: &mut O,
 ) -> Result<Stop, GrepFault>
     requires bound { buffer.old.left < 2 ^ 32 }
-    requires lines { tally.old.lines ≡ 0 }
-    requires matches { tally.old.matches ≡ 0 }
+    requires counted { HasCountedNone tally.old }
     requires empty { pending_bytes buffer.old ≡ [] }
     ensures bound { IfOk result (λ stop. UnlessListed stop
         (tally.new.lines + length (pending_bytes buffer.new) ≤ buffer.old.left)) }

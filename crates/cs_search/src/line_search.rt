@@ -10,7 +10,7 @@ ghost use Rattle.cs_match.specs.LastPart.{last_part};
 ghost use Rattle.cs_match.specs.MatchingEnds.{matching_ends};
 ghost use Rattle.cs_match.specs.Skipped.{AreLinesBetween};
 ghost use Rattle.cs_match.specs.Work.{line_work};
-ghost use Rattle.cs_search.specs.TestedLines.{SameNumber, CountsBlock, IsUnlisted, TestsBy, TestsBlock};
+ghost use Rattle.cs_search.specs.TestedLines.{SameNumber, CountsBlock, IsUnlisted, IsNextBlock, GoesOn, WritesTo, TestsBy, TestsBlock};
 ghost use Rattle.cs_search.specs.Work.{searched_work};
 ghost use Rattle.cs_search.specs.SearchedWork.{StepsWithin, ended_work};
 
@@ -32,9 +32,8 @@ pub(crate) fn search_line<O: Sink>(
 ) -> Result<(), GrepFault>
     requires { tally.old.lines + 1 < 2 ^ 64 }
     ensures lines { OnOk result (tally.new.lines ≡ tally.old.lines + 1) }
-    ensures tests { TestsBy matcher.old.tree printer.now.style printer.now.name.now (line.now ∷ [])
-        tally.old tally.new (O.model out.old) (O.model out.new) result }
-    ensures failed { O.failed out.new ≡ count_after is_grep_failure result (O.failed out.old) }
+    ensures tests { WritesTo O.model O.failed out.old out.new result (TestsBy matcher.old.tree
+        printer.now.style printer.now.name.now (line.now ∷ []) tally.old tally.new) }
     ensures work { StepsWithin (line_work matcher.old.tree (length line.now)) matcher.old matcher.new }
 {
     if matcher.is_match(line) {
@@ -89,8 +88,7 @@ fn count_skipped(printer: &Printer<'_>, tally: &mut Tally, lines: &[u8], matcher
 
 /// Counts the matching lines of a block of whole lines, and all of them if numbers are printed.
 fn count_lines(printer: &Printer<'_>, tally: &mut Tally, block: &[u8], matcher: &mut Matcher<'_>)
-    requires whole { AreWholeLines block.now }
-    requires room { tally.old.lines + length block.now < 2 ^ 64 }
+    requires block { IsNextBlock tally.old block.now }
     ensures lines { CountsBlock printer.now.style tally.old tally.new block.now }
     ensures matches { (has_match : List ℕ → Bool) → Decides has_match matcher.old.tree →
         tally.new.matches ≡ tally.old.matches + count_by has_match (terminated_lines block.now) }
@@ -117,10 +115,9 @@ fn print_lines<O: Sink>(
     requires prints { printer.now.style.list ≡ false }
     ensures lines { IfOk result (λ _. CountsBlock printer.now.style tally.old tally.new
         (slice_range block.now part.start part.end)) }
-    ensures tests { TestsBy matcher.old.tree printer.now.style printer.now.name.now
-        (terminated_lines (slice_range block.now part.start part.end))
-        tally.old tally.new (O.model out.old) (O.model out.new) result }
-    ensures failed { O.failed out.new ≡ count_after is_grep_failure result (O.failed out.old) }
+    ensures tests { WritesTo O.model O.failed out.old out.new result
+        (TestsBy matcher.old.tree printer.now.style printer.now.name.now
+        (terminated_lines (slice_range block.now part.start part.end)) tally.old tally.new) }
     ensures work { StepsWithin (2 * (part.end - part.start)) matcher.old matcher.new }
 {
     let mut offset = part.start;
@@ -144,14 +141,11 @@ fn print_block<O: Sink>(
     matcher: &mut Matcher<'_>,
     out: &mut O,
 ) -> Result<(), GrepFault>
-    requires whole { AreWholeLines block.now }
-    requires room { tally.old.lines + length block.now < 2 ^ 64 }
+    requires block { IsNextBlock tally.old block.now }
     requires prints { printer.now.style.list ≡ false }
     ensures lines { IfOk result (λ _. CountsBlock printer.now.style tally.old tally.new block.now) }
-    ensures tests { TestsBy matcher.old.tree printer.now.style printer.now.name.now
-        (terminated_lines block.now)
-        tally.old tally.new (O.model out.old) (O.model out.new) result }
-    ensures failed { O.failed out.new ≡ count_after is_grep_failure result (O.failed out.old) }
+    ensures tests { WritesTo O.model O.failed out.old out.new result (TestsBy matcher.old.tree
+        printer.now.style printer.now.name.now (terminated_lines block.now) tally.old tally.new) }
     ensures work { StepsWithin (searched_work matcher.old.tree (length block.now)) matcher.old matcher.new }
 {
     let mut offset = 0;
@@ -172,16 +166,13 @@ fn list_name<O: Sink>(
     matcher: &mut Matcher<'_>,
     out: &mut O,
 ) -> Result<bool, GrepFault>
-    requires whole { AreWholeLines block.now }
-    requires room { tally.old.lines + length block.now < 2 ^ 64 }
+    requires block { IsNextBlock tally.old block.now }
     requires lists { printer.now.style.list ≡ true }
     requires unlisted { tally.old.matches ≡ 0 }
-    ensures lines { IfOk result (λ listed. listed ≡ false →
-        CountsBlock printer.now.style tally.old tally.new block.now) }
-    ensures tests { TestsBlock matcher.old.tree printer.now.style printer.now.name.now block.now
-        tally.old tally.new (O.model out.old) (O.model out.new) (λ listed. listed) result }
-    ensures unlisted { IfOk result (λ listed. listed ≡ false → tally.new.matches ≡ 0) }
-    ensures failed { O.failed out.new ≡ count_after is_grep_failure result (O.failed out.old) }
+    ensures goes_on { IfOk result (λ listed. listed ≡ false →
+        GoesOn printer.now.style tally.old tally.new block.now) }
+    ensures tests { WritesTo O.model O.failed out.old out.new result (TestsBlock (λ listed. listed)
+        matcher.old.tree printer.now.style printer.now.name.now block.now tally.old tally.new) }
     ensures work { StepsWithin (searched_work matcher.old.tree (length block.now)) matcher.old matcher.new }
 {
     match matcher.next_match(block, 0) {
@@ -206,15 +197,12 @@ fn search_lines<O: Sink>(
     matcher: &mut Matcher<'_>,
     out: &mut O,
 ) -> Result<bool, GrepFault>
-    requires whole { AreWholeLines block.now }
-    requires room { tally.old.lines + length block.now < 2 ^ 64 }
+    requires block { IsNextBlock tally.old block.now }
     requires unlisted { IsUnlisted printer.now.style tally.old }
-    ensures lines { IfOk result (λ listed. listed ≡ false →
-        CountsBlock printer.now.style tally.old tally.new block.now) }
-    ensures tests { TestsBlock matcher.old.tree printer.now.style printer.now.name.now block.now
-        tally.old tally.new (O.model out.old) (O.model out.new) (λ listed. listed) result }
-    ensures unlisted { IfOk result (λ listed. listed ≡ false → IsUnlisted printer.now.style tally.new) }
-    ensures failed { O.failed out.new ≡ count_after is_grep_failure result (O.failed out.old) }
+    ensures goes_on { IfOk result (λ listed. listed ≡ false →
+        GoesOn printer.now.style tally.old tally.new block.now) }
+    ensures tests { WritesTo O.model O.failed out.old out.new result (TestsBlock (λ listed. listed)
+        matcher.old.tree printer.now.style printer.now.name.now block.now tally.old tally.new) }
     ensures work { StepsWithin (searched_work matcher.old.tree (length block.now)) matcher.old matcher.new }
 {
     if printer.style.list {
@@ -247,12 +235,10 @@ pub(crate) fn search_block<O: Sink>(
     requires unlisted { IsUnlisted printer.now.style tally.old }
     ensures rest { IfOk result (λ answer. IfSome answer
         (λ start. (start ≤ length block.now) × (drop start block.now ≡ last_part block.now))) }
-    ensures lines { IfOk result (λ answer. IfSome answer
-        (λ start. CountsBlock printer.now.style tally.old tally.new block.now)) }
-    ensures tests { TestsBlock matcher.old.tree printer.now.style printer.now.name.now block.now
-        tally.old tally.new (O.model out.old) (O.model out.new) is_none result }
-    ensures unlisted { IfOk result (λ answer. IfSome answer (λ _. IsUnlisted printer.now.style tally.new)) }
-    ensures failed { O.failed out.new ≡ count_after is_grep_failure result (O.failed out.old) }
+    ensures goes_on { IfOk result (λ answer. IfSome answer
+        (λ _. GoesOn printer.now.style tally.old tally.new block.now)) }
+    ensures tests { WritesTo O.model O.failed out.old out.new result (TestsBlock is_none
+        matcher.old.tree printer.now.style printer.now.name.now block.now tally.old tally.new) }
     ensures work { StepsWithin (ended_work matcher.old.tree block.now + (length block.now - scanned))
         matcher.old matcher.new }
 {

@@ -5,7 +5,7 @@ ghost use Rattle.cs_tree.specs.FailureCount.{count_after};
 ghost use Rattle.cs_tree.specs.WritesBytes.{WritesBytes};
 ghost use Rattle.cs_search.specs.GrepFaults.{is_grep_failure};
 ghost use Rattle.cs_search.specs.Report.{count_line, match_line};
-ghost use Rattle.cs_search.specs.TestedLines.{match_output, total};
+ghost use Rattle.cs_search.specs.TestedLines.{WritesTo, match_output, total};
 
 use crate::grep_fault::GrepFault;
 use cs_args::Style;
@@ -28,9 +28,8 @@ impl Printer<'_> {
         line: &[u8],
         out: &mut O,
     ) -> Result<(), GrepFault>
-        ensures written { WritesBytes (match_output self.now.style self.now.name.now (number, line.now))
-            (O.model out.old) (O.model out.new) result }
-        ensures failed { O.failed out.new ≡ count_after is_grep_failure result (O.failed out.old) }
+        ensures { WritesTo O.model O.failed out.old out.new result
+            (WritesBytes (match_output self.now.style self.now.name.now (number, line.now))) }
     {
         if self.style.list {
             self.print_name(out)?;
@@ -46,9 +45,8 @@ impl Printer<'_> {
     /// The name on a line.
     #[tactic(auto, using(crate::proofs::Printing::printing))]
     pub(crate) fn print_name<O: Sink>(&self, out: &mut O) -> Result<(), GrepFault>
-        ensures written { WritesBytes (self.now.name.now ++ newline ∷ [])
-            (O.model out.old) (O.model out.new) result }
-        ensures failed { O.failed out.new ≡ count_after is_grep_failure result (O.failed out.old) }
+        ensures { WritesTo O.model O.failed out.old out.new result
+            (WritesBytes (self.now.name.now ++ newline ∷ [])) }
     {
         write_all(out, self.name.as_bytes())?;
         end_line(out)?;
@@ -58,9 +56,8 @@ impl Printer<'_> {
     /// The line, after the name and number that the style prints.
     #[tactic(auto, using(crate::proofs::Printing::printing), unfolding(crate::specs::Report::match_line))]
     fn print_line<O: Sink>(&self, number: u64, line: &[u8], out: &mut O) -> Result<(), GrepFault>
-        ensures written { WritesBytes (match_line self.now.style self.now.name.now (number, line.now))
-            (O.model out.old) (O.model out.new) result }
-        ensures failed { O.failed out.new ≡ count_after is_grep_failure result (O.failed out.old) }
+        ensures { WritesTo O.model O.failed out.old out.new result
+            (WritesBytes (match_line self.now.style self.now.name.now (number, line.now))) }
     {
         self.print_prefix(out)?;
         self.print_number(number, out)?;
@@ -72,9 +69,8 @@ impl Printer<'_> {
     /// `NAME:`, and nothing under `-h`.
     #[tactic(auto, using(crate::proofs::Printing::printing))]
     fn print_prefix<O: Sink>(&self, out: &mut O) -> Result<(), GrepFault>
-        ensures written { WritesBytes (if self.now.style.bare then [] else self.now.name.now ++ codes ":")
-            (O.model out.old) (O.model out.new) result }
-        ensures failed { O.failed out.new ≡ count_after is_grep_failure result (O.failed out.old) }
+        ensures { WritesTo O.model O.failed out.old out.new result
+            (WritesBytes (if self.now.style.bare then [] else self.now.name.now ++ codes ":")) }
     {
         if self.style.bare {
             return Ok(());
@@ -87,9 +83,8 @@ impl Printer<'_> {
     /// `NUMBER:` under `-n`, else nothing.
     #[tactic(auto, using(crate::proofs::Printing::printing))]
     fn print_number<O: Sink>(&self, number: u64, out: &mut O) -> Result<(), GrepFault>
-        ensures written { WritesBytes (if self.now.style.number then decimal number ++ codes ":" else [])
-            (O.model out.old) (O.model out.new) result }
-        ensures failed { O.failed out.new ≡ count_after is_grep_failure result (O.failed out.old) }
+        ensures { WritesTo O.model O.failed out.old out.new result
+            (WritesBytes (if self.now.style.number then decimal number ++ codes ":" else [])) }
     {
         if !self.style.number {
             return Ok(());
@@ -102,9 +97,8 @@ impl Printer<'_> {
     /// Prints the number of matching lines at the end of an input, under `-c` without `-l`.
     #[tactic(auto, using(crate::proofs::Printing::printing), unfolding(crate::specs::TestedLines::total))]
     pub(crate) fn print_total<O: Sink>(&self, count: u64, out: &mut O) -> Result<(), GrepFault>
-        ensures written { WritesBytes (total self.now.style self.now.name.now count)
-            (O.model out.old) (O.model out.new) result }
-        ensures failed { O.failed out.new ≡ count_after is_grep_failure result (O.failed out.old) }
+        ensures { WritesTo O.model O.failed out.old out.new result
+            (WritesBytes (total self.now.style self.now.name.now count)) }
     {
         if self.style.list || !self.style.count || count == 0 {
             return Ok(());
@@ -116,9 +110,8 @@ impl Printer<'_> {
     /// `NAME: COUNT` on a line.
     #[tactic(auto, using(crate::proofs::Printing::printing), unfolding(crate::specs::Report::count_line))]
     fn print_count<O: Sink>(&self, count: u64, out: &mut O) -> Result<(), GrepFault>
-        ensures written { WritesBytes (count_line self.now.name.now count)
-            (O.model out.old) (O.model out.new) result }
-        ensures failed { O.failed out.new ≡ count_after is_grep_failure result (O.failed out.old) }
+        ensures { WritesTo O.model O.failed out.old out.new result
+            (WritesBytes (count_line self.now.name.now count)) }
     {
         write_all(out, self.name.as_bytes())?;
         write_all(out, b": ")?;
@@ -130,8 +123,7 @@ impl Printer<'_> {
 
 /// The number in decimal.
 fn write_number<O: Sink>(number: u64, out: &mut O) -> Result<(), GrepFault>
-    ensures written { WritesBytes (decimal number) (O.model out.old) (O.model out.new) result }
-    ensures failed { O.failed out.new ≡ count_after is_grep_failure result (O.failed out.old) }
+    ensures { WritesTo O.model O.failed out.old out.new result (WritesBytes (decimal number)) }
 {
     let mut digits = Buffer::new();
     write_all(out, digits.format(number).as_bytes())?;
@@ -140,8 +132,7 @@ fn write_number<O: Sink>(number: u64, out: &mut O) -> Result<(), GrepFault>
 
 /// A newline.
 fn end_line<O: Sink>(out: &mut O) -> Result<(), GrepFault>
-    ensures written { WritesBytes (newline ∷ []) (O.model out.old) (O.model out.new) result }
-    ensures failed { O.failed out.new ≡ count_after is_grep_failure result (O.failed out.old) }
+    ensures { WritesTo O.model O.failed out.old out.new result (WritesBytes (newline ∷ [])) }
 {
     write_all(out, b"\n")?;
     Ok(())

@@ -7,7 +7,7 @@ ghost use Rattle.cs_match.specs.Work.{line_work};
 ghost use Rattle.cs_search.specs.GrepReports.{ReportsBy};
 ghost use Rattle.cs_search.specs.InputReport.{max_searched, input_report};
 ghost use Rattle.cs_search.specs.GrepFaults.{CountsBoth, is_grep_failure, has_read_failed};
-ghost use Rattle.cs_search.specs.TestedLines.{TestsBy, EndsBy};
+ghost use Rattle.cs_search.specs.TestedLines.{WritesTo, TestsBy, EndsBy};
 ghost use Rattle.cs_search.specs.Work.{TakesSteps, input_work};
 ghost use Rattle.cs_search.specs.SearchedWork.{StepsWithin};
 
@@ -117,9 +117,8 @@ pub(crate) fn end_search<O: Sink>(
     out: &mut O,
 ) -> Result<(), GrepFault>
     requires { tally.old.lines + 1 < 2 ^ 64 }
-    ensures ends { EndsBy matcher.old.tree printer.now.style printer.now.name.now (last_line rest.now)
-        tally.old tally.new (O.model out.old) (O.model out.new) result }
-    ensures failed { O.failed out.new ≡ count_after is_grep_failure result (O.failed out.old) }
+    ensures ends { WritesTo O.model O.failed out.old out.new result (EndsBy matcher.old.tree
+        printer.now.style printer.now.name.now (last_line rest.now) tally.old tally.new) }
     ensures work { StepsWithin (line_work matcher.old.tree (length rest.now)) matcher.old matcher.new }
 {
     search_rest(printer, tally, rest, matcher, out)?;
@@ -136,9 +135,8 @@ fn search_rest<O: Sink>(
     out: &mut O,
 ) -> Result<(), GrepFault>
     requires { tally.old.lines + 1 < 2 ^ 64 }
-    ensures tests { TestsBy matcher.old.tree printer.now.style printer.now.name.now (last_line rest.now)
-        tally.old tally.new (O.model out.old) (O.model out.new) result }
-    ensures failed { O.failed out.new ≡ count_after is_grep_failure result (O.failed out.old) }
+    ensures tests { WritesTo O.model O.failed out.old out.new result (TestsBy matcher.old.tree
+        printer.now.style printer.now.name.now (last_line rest.now) tally.old tally.new) }
     ensures work { StepsWithin (line_work matcher.old.tree (length rest.now)) matcher.old matcher.new }
 {
     if rest.is_empty() {

@@ -15,9 +15,10 @@ pub(crate) struct Tally {
 }
 
 impl Tally {
+    ghost use Rattle.cs_search.specs.TestedLines.{HasCountedNone};
+
     pub(crate) fn new() -> Tally
-        ensures lines { result.lines ≡ 0 }
-        ensures matches { result.matches ≡ 0 }
+        ensures { HasCountedNone result }
     {
         Tally {
             lines: 0,

@@ -28,15 +28,15 @@ pieces-init g c =
     let r = c.requires in
     let none : c.args.buffer.now.left - c.args.buffer.now.left ≡ 0 = omega arith in
     record {
-      bound = omega (arith, r.lines, ap (λ (l : List ℕ). length l) r.empty);
+      bound = omega (arith, r.counted.0, ap (λ (l : List ℕ). length l) r.empty);
       part = subst HasNoNewline (sym r.empty) tt;
-      read = HasReadInput-none c.args.printer.now.style (g.R.Source.model c.args.input.now) _ _ _ none r.empty r.lines;
+      read = HasReadInput-none c.args.printer.now.style (g.R.Source.model c.args.input.now) _ _ _ none r.empty r.counted.0;
       tested = λ has_match decides. HasTested-none (g.R.Source.model c.args.input.now) (c.args.buffer.now.left - c.args.buffer.now.left)
           (λ lines. Tests c.args.printer.now.style c.args.printer.now.name.now has_match lines c.args.tally.now
           c.args.tally.now (g.O.Sink.model c.args.out.now) (g.O.Sink.model c.args.out.now)) none
           (Tests-none c.args.printer.now.style c.args.printer.now.name.now has_match c.args.tally.now
           (g.O.Sink.model c.args.out.now));
-      unlisted = λ listed. r.matches;
+      unlisted = λ listed. r.counted.1;
       same = refl;
       read_failed = refl;
       write_failed = refl;
@@ -88,10 +88,10 @@ returns-in_err-start-clause-tests g c =
     TestsInputPrefix-piece _ _ has_match _ c.pieces.tally _ (g.O.Sink.model c.pieces.out) _
     (g.R.Source.model c.args.input.now) (g.R.Source.model c.pieces.input) (g.R.Source.model c.fill.new.input)
     (c.args.buffer.now.left - c.pieces.buffer.left) old piece c.pieces.tally.lines _ (omega (arith, e.left, i.bound, size)) i.read
-    e.model.0 i.unlisted (omega (arith, c.requires.lines)) (i.tested has_match decides)
+    e.model.0 i.unlisted (omega (arith, c.requires.counted.0)) (i.tested has_match decides)
     (subst (λ b. TestsPrefix c.args.printer.now.style c.args.printer.now.name.now has_match (terminated_lines b)
     (c.pieces.tally.lines + 1) (g.O.Sink.model c.pieces.out) (g.O.Sink.model c.search_block.new.out)) block
-    (c.in_err-start.ensures.tests has_match (subst (Decides has_match) (sym (tree_of _ c.pieces.matcher c.add_steps.new.self c.add_steps.ensures ∙ i.same)) decides))))
+    (c.in_err-start.ensures.tests.0 has_match (subst (Decides has_match) (sym (tree_of _ c.pieces.matcher c.add_steps.new.self c.add_steps.ensures ∙ i.same)) decides))))
 
 pub returns-in_err-stop-clause-tests : goal.returns-in_err-stop-clause-tests
 returns-in_err-stop-clause-tests g c =
@@ -110,7 +110,7 @@ returns-in_default-clause-tests g c = λ has_match decides.
     let piece = drop (length old) (pending_bytes c.fill.new.self) in
     let block : c.pending.result.now ≡ old ++ piece = c.pending.ensures ∙ GrowsBy-split _ _ _ e.gains in
     let size : length piece ≡ c.in-Ok.field-0 = GrowsBy-size _ _ _ e.gains in
-    let is_listed = rw c.in_default.is at (s.tests has_match (subst (Decides has_match) (sym (tree_of _ c.pieces.matcher c.add_steps.new.self c.add_steps.ensures ∙ i.same)) decides)) in
+    let is_listed = rw c.in_default.is at (s.tests.0 has_match (subst (Decides has_match) (sym (tree_of _ c.pieces.matcher c.add_steps.new.self c.add_steps.ensures ∙ i.same)) decides)) in
     TestsInput-listed _ _ has_match _ _ _ _ _ (g.R.Source.model c.args.input.now) (g.R.Source.model c.pieces.input)
     (g.R.Source.model c.fill.new.input) (c.args.buffer.now.left - c.pieces.buffer.left) old piece c.pieces.tally.lines c.pieces.tally
     (g.O.Sink.model c.pieces.out) (omega (arith, e.left, i.bound, size)) i.read e.model.0
@@ -135,7 +135,7 @@ pieces-preserved g c =
     let model = g.R.Source.model c.args.input.now in
     let later = g.R.Source.model c.fill.new.input in
     let left = g.R.Source.model c.pieces.input in
-    let counted = λ (shown : c.args.printer.now.style.number ≡ true). s.lines.exact shown
+    let counted = λ (shown : c.args.printer.now.style.number ≡ true). s.goes_on.0.exact shown
     ∙ ap (λ b. c.pieces.tally.lines + length (terminated_lines b)) block in
     let Mid = λ (has_match : List ℕ → Bool) (lines : List (List ℕ)). Tests c.args.printer.now.style
     c.args.printer.now.name.now has_match lines c.args.tally.now c.pieces.tally (g.O.Sink.model c.args.out.now)
@@ -149,7 +149,7 @@ pieces-preserved g c =
         e.left,
         c.skip.ensures.left,
         i.bound,
-        s.lines.bound,
+        s.goes_on.0.bound,
         ap (λ (l : List ℕ). length l) rest,
         ap (λ (l : List ℕ). length l) c.pending.ensures,
         e.gains.size,
@@ -164,16 +164,16 @@ pieces-preserved g c =
           let found = subst (λ b. Tests c.args.printer.now.style c.args.printer.now.name.now has_match
           (terminated_lines b) c.pieces.tally c.search_block.new.tally (g.O.Sink.model c.pieces.out)
           (g.O.Sink.model c.search_block.new.out)) block
-          (s.tests has_match (subst (Decides has_match) (sym (tree_of _ c.pieces.matcher c.add_steps.new.self c.add_steps.ensures ∙ i.same)) decides)) in
+          (s.tests.0 has_match (subst (Decides has_match) (sym (tree_of _ c.pieces.matcher c.add_steps.new.self c.add_steps.ensures ∙ i.same)) decides)) in
           subst (λ k. HasTested model k (After has_match)) n
           (HasTested-more c.args.printer.now.style (c.args.buffer.now.left - c.pieces.buffer.left) old piece c.pieces.tally.lines model
           left later (Mid has_match) (After has_match) i.read e.model.0
           (λ ls is tests. Tests-more _ _ has_match ls (terminated_lines (old ++ piece)) _ _ _ _ _ _
-          (λ shown. omega (arith, is shown, c.requires.lines)) tests found) (i.tested has_match decides));
-      unlisted = s.unlisted;
+          (λ shown. omega (arith, is shown, c.requires.counted.0)) tests found) (i.tested has_match decides));
+      unlisted = s.goes_on.1;
       same = s.work.0 ∙ tree_of _ c.pieces.matcher c.add_steps.new.self c.add_steps.ensures ∙ i.same;
       read_failed = e.failed ∙ i.read_failed;
-      write_failed = s.failed ∙ i.write_failed;
+      write_failed = s.tests.1 ∙ i.write_failed;
       work = subst (λ k. HasSearched (pending_bytes c.skip.new.self) k model later c.args.matcher.now c.search_block.new.matcher) n
           (searched_on (pending_bytes c.pieces.buffer) (c.args.buffer.now.left - c.pieces.buffer.left)
           (g.R.Source.model c.args.input.now) (g.R.Source.model c.pieces.input) c.args.matcher.now c.pieces.matcher i.work i.same

@@ -4,7 +4,7 @@ use Rattle.cs_search.proofs.WorkLemmas.{list_search, works_fewer, works_more}
 use Rattle.cs_search.proofs.line_search.count_lines.Goals as goal
 
 pub overflow_add-tally : goal.overflow_add-tally
-overflow_add-tally c = omega (arith, c.line_count.ensures.most, lines_within c.args.block.now, c.requires.room)
+overflow_add-tally c = omega (arith, c.line_count.ensures.most, lines_within c.args.block.now, c.requires.block.1)
 
 pub overflow_add-tally-2 : goal.overflow_add-tally-2
 overflow_add-tally-2 c = omega (
@@ -12,7 +12,7 @@ overflow_add-tally-2 c = omega (
   c.args.tally.now.bound,
   c.count-matches.ensures.bound,
   lines_within c.args.block.now,
-  c.requires.room,
+  c.requires.block.1,
 )
 
 pub returns-clause-lines : goal.returns-clause-lines

@@ -1,4 +1,4 @@
-use Rattle.std.proofs.Common.{◌≡◌, ◌≤◌, ◌+◌, ◌*◌, ◌-◌, ℕ, length, take, drop, refl, sym, ap, subst, ◌∙◌, arith}
+use Rattle.std.proofs.Common.{◌≡◌, ◌≤◌, ◌+◌, ◌*◌, ◌-◌, ℕ, length, take, drop, refl, sym, ap, subst, ◌∙◌, arith, rules}
 use Rattle.std.proofs.lemmas.Bool.{false≢true}
 use Rattle.std.proofs.lemmas.List.{take_all}
 use Rattle.std.proofs.lemmas.Result.{err_from_is_err_and}
@@ -30,7 +30,7 @@ lists-init g c = record {
 }
 
 pub list_lines-to-requires-clause-whole : goal.list_lines-to-requires-clause-whole
-list_lines-to-requires-clause-whole g c = whole_from c.args.block.now 0 c.lists.offset (omega arith) c.requires.whole
+list_lines-to-requires-clause-whole g c = whole_from c.args.block.now 0 c.lists.offset (omega arith) c.requires.block.0
 
 pub print_lines-requires-clause-room : goal.print_lines-requires-clause-room
 print_lines-requires-clause-room g c =
@@ -39,7 +39,7 @@ print_lines-requires-clause-room g c =
     omega (
       arith,
       counted_within (drop 0 c.args.block.now) (c.lists.offset - 0),
-      c.requires.room,
+      c.requires.block.1,
       i.counted.bound,
       i.lines.low,
       e.moves,
@@ -81,32 +81,34 @@ lists-preserved g c =
       counted = counted_on block 0 offset to i.lines e.lines.low style c.args.tally.now.lines c.lists.tally.lines later.lines i.counted c.in_ok-print_lines.ensures.lines;
       tests = λ has_match decides. tests_on block 0 offset to i.lines e.lines.low style name has_match c.args.tally.now c.lists.tally
           (g.O.Sink.model c.args.out.now) (g.O.Sink.model c.lists.out) i.counted.exact (i.tests has_match decides) later (g.O.Sink.model c.print_lines.new.out)
-          (c.in_ok-print_lines.ensures.tests has_match (subst (Decides has_match) (sym (e.same ∙ i.same)) decides));
+          (c.in_ok-print_lines.ensures.tests.0 has_match (subst (Decides has_match) (sym (e.same ∙ i.same)) decides));
       same = p.work.0 ∙ e.same ∙ i.same;
       work = steps_on offset to c.args.matcher.now c.lists.matcher c.list_lines-to.new.self c.print_lines.new.matcher e.lines.low i.same i.work e.work p.work.1;
-      failed = c.in_ok-print_lines.ensures.failed ∙ i.failed;
+      failed = c.in_ok-print_lines.ensures.tests.1 ∙ i.failed;
     }
 
 pub returns-in_err-print_lines-clause-tests : goal.returns-in_err-print_lines-clause-tests
 returns-in_err-print_lines-clause-tests g c =
-    let p = err_from_is_err_and c.from_residual.result c.from_residual.ensures.1 in
-    rw p.1 (λ has_match decides.
-    let i = c.lists.invariant in
-    let e = c.list_lines-to.ensures in
-    let block = c.args.block.now in
-    let offset = c.lists.offset in
-    let to = c.list_lines-to.result in
-    let style = c.args.printer.now.style in
-    let name = c.args.printer.now.name.now in
-    let later = g.O.Sink.model c.print_lines.new.out in
-    let prefix = prefix_on block 0 offset to i.lines e.lines.low style name has_match c.args.tally.now c.lists.tally
-    (g.O.Sink.model c.args.out.now) (g.O.Sink.model c.lists.out) i.counted.exact (i.tests has_match decides)
-    (λ listed. absurd (false≢true (sym c.requires.prints ∙ listed))) later
-    (c.in_err-print_lines.ensures.tests has_match (subst (Decides has_match) (sym (e.same ∙ i.same)) decides)) in
-    subst (λ text. TestsPrefix style name has_match (terminated_lines text) (c.args.tally.now.lines + 1) (g.O.Sink.model c.args.out.now) later)
-    (take_all (length block - 0) block (omega arith))
-    (prefix_of block 0 to (length block) (lines_append block 0 offset to i.lines e.lines) e.lines.high style name has_match
-    (c.args.tally.now.lines + 1) (g.O.Sink.model c.args.out.now) later prefix))
+    let p = err_from_is_err_and c.from_residual.result c.from_residual.ensures.1 in (
+      rw p.1 (λ has_match decides.
+          let i = c.lists.invariant in
+          let e = c.list_lines-to.ensures in
+          let block = c.args.block.now in
+          let offset = c.lists.offset in
+          let to = c.list_lines-to.result in
+          let style = c.args.printer.now.style in
+          let name = c.args.printer.now.name.now in
+          let later = g.O.Sink.model c.print_lines.new.out in
+          let prefix = prefix_on block 0 offset to i.lines e.lines.low style name has_match c.args.tally.now c.lists.tally
+          (g.O.Sink.model c.args.out.now) (g.O.Sink.model c.lists.out) i.counted.exact (i.tests has_match decides)
+          (λ listed. absurd (false≢true (sym c.requires.prints ∙ listed))) later
+          (c.in_err-print_lines.ensures.tests.0 has_match (subst (Decides has_match) (sym (e.same ∙ i.same)) decides)) in
+          subst (λ text. TestsPrefix style name has_match (terminated_lines text) (c.args.tally.now.lines + 1) (g.O.Sink.model c.args.out.now) later)
+          (take_all (length block - 0) block (omega arith))
+          (prefix_of block 0 to (length block) (lines_append block 0 offset to i.lines e.lines) e.lines.high style name has_match
+          (c.args.tally.now.lines + 1) (g.O.Sink.model c.args.out.now) later prefix)),
+      search rules,
+    )
 
 pub returns-in_err-print_lines-clause-work : goal.returns-in_err-print_lines-clause-work
 returns-in_err-print_lines-clause-work g c =
@@ -129,13 +131,16 @@ returns-clause-lines g c =
     subst (λ text. CountsLines c.args.printer.now.style c.args.tally.now.lines c.lists.tally.lines (length (terminated_lines text))) whole i.counted
 
 pub returns-clause-tests : goal.returns-clause-tests
-returns-clause-tests g c = λ has_match decides.
-    let i = c.lists.invariant in
-    let block = c.args.block.now in
-    let all : c.lists.offset ≡ length block = omega (arith, i.lines.high, c.lists-test.false) in
-    let whole = ap (λ n. take (n - 0) block) all ∙ take_all (length block - 0) block (omega arith) in
-    subst (λ text. Tests c.args.printer.now.style c.args.printer.now.name.now has_match (terminated_lines text) c.args.tally.now c.lists.tally
-    (g.O.Sink.model c.args.out.now) (g.O.Sink.model c.lists.out)) whole (i.tests has_match decides)
+returns-clause-tests g c = (
+  (λ has_match decides.
+      let i = c.lists.invariant in
+      let block = c.args.block.now in
+      let all : c.lists.offset ≡ length block = omega (arith, i.lines.high, c.lists-test.false) in
+      let whole = ap (λ n. take (n - 0) block) all ∙ take_all (length block - 0) block (omega arith) in
+      subst (λ text. Tests c.args.printer.now.style c.args.printer.now.name.now has_match (terminated_lines text) c.args.tally.now c.lists.tally
+      (g.O.Sink.model c.args.out.now) (g.O.Sink.model c.lists.out)) whole (i.tests has_match decides)),
+  search rules,
+)
 
 pub returns-clause-work : goal.returns-clause-work
 returns-clause-work g c =

@@ -1,4 +1,4 @@
-use Rattle.std.proofs.Common.{◌≡◌, ◌≤◌, ◌<◌, ◌+◌, ◌*◌, ◌-◌, Bool, List, ℕ, length, take, drop, get_or, refl, sym, ap, subst, ◌∙◌, arith, length-take}
+use Rattle.std.proofs.Common.{◌≡◌, ◌≤◌, ◌<◌, ◌+◌, ◌*◌, ◌-◌, Bool, List, ℕ, length, take, drop, get_or, refl, sym, ap, subst, ◌∙◌, arith, length-take, rules}
 use Rattle.std.proofs.lemmas.Bool.{false≢true}
 use Rattle.std.proofs.lemmas.List.{drop_all}
 use Rattle.std.proofs.lemmas.Result.{err_from_is_err_and}
@@ -166,7 +166,7 @@ loop-k-preserved g c =
           counted.0.exact (first_matches has_match block offset c.args.part.end _ _ c.requires.lines.high first start end l.end l.line)
           next_tally (g.O.Sink.model c.print_match.new.out) c.add_match.ensures.matches
           (subst (λ n. Grows (g.O.Sink.model c.loop-k.out) (g.O.Sink.model c.print_match.new.out)
-          (match_output style name (n, take (end - start) (drop start block)))) c.add_match.ensures.lines c.in_ok-print_match.ensures.written);
+          (match_output style name (n, take (end - start) (drop start block)))) c.add_match.ensures.lines c.in_ok-print_match.ensures.0);
       rest = λ has_match decides.
           let first = next has_match block c.listed.result.now c.loop-k.matcher.ends c.args.matcher.now.ends offset c.args.part.end c.loop-k.k
           i.high c.requires.lines.high within (i.rest has_match decides) c.listed.ensures i.ends in
@@ -176,38 +176,40 @@ loop-k-preserved g c =
       work = steps_on from offset start end c.args.part.end c.args.matcher.now c.loop-k.matcher c.add_steps.new.self c.count_skipped.new.matcher
           i.lines.low l.line.low l.line.order i.work c.add_steps.ensures
           (works_fewer _ _ c.add_steps.new.self c.count_skipped.new.matcher (omega (arith, skipped)) c.count_skipped.ensures.work.1);
-      failed = c.in_ok-print_match.ensures.failed ∙ i.failed;
+      failed = c.in_ok-print_match.ensures.1 ∙ i.failed;
     }
 
 pub returns-in_err-print_match-clause-tests : goal.returns-in_err-print_match-clause-tests
 returns-in_err-print_match-clause-tests g c =
-    let p = err_from_is_err_and c.from_residual.result c.from_residual.ensures.1 in
-    rw p.1 (λ has_match decides.
-    let i = c.loop-k.invariant in
-    let block = c.args.block.now in
-    let from = c.args.part.start in
-    let offset = c.loop-k.offset in
-    let l = c.line_to-line.ensures in
-    let start = c.line_to-line.result.start in
-    let end = c.line_to-line.result.end in
-    let style = c.args.printer.now.style in
-    let name = c.args.printer.now.name.now in
-    let mid = c.count_skipped.new.tally in
-    let within : c.loop-k.k < length c.args.matcher.now.ends = omega (arith, c.loop-k-test.true, ap (λ (xs : List ℕ). length xs) c.listed-k-end.ensures) in
-    let first = next has_match block c.listed.result.now c.loop-k.matcher.ends c.args.matcher.now.ends offset c.args.part.end c.loop-k.k
-    i.high c.requires.lines.high within (i.rest has_match decides) c.listed.ensures i.ends in
-    let counted = counted_line block from offset start end i.lines l.line style c.args.tally.now.lines c.loop-k.tally.lines mid.lines
-    c.add_match.new.self.lines i.counted c.count_skipped.ensures.lines c.add_match.ensures.lines in
-    prefix_of block from (end + 1) c.args.part.end (to_next block from offset start end i.lines l.line)
-    (ends_within end _ c.args.part.end l.end first.high) style name has_match (c.args.tally.now.lines + 1)
-    (g.O.Sink.model c.args.out.now) (g.O.Sink.model c.print_match.new.out)
-    (prefix_line block from offset start end i.lines l.line style name has_match c.args.tally.now c.loop-k.tally mid
-    (g.O.Sink.model c.args.out.now) (g.O.Sink.model c.loop-k.out) i.counted.exact (i.tests has_match decides)
-    (first_skips has_match block offset c.args.part.end _ _ c.requires.lines.high first start end l.end l.line) c.count_skipped.ensures.matches
-    counted.0.exact (first_matches has_match block offset c.args.part.end _ _ c.requires.lines.high first start end l.end l.line)
-    (λ listed. absurd (false≢true (sym c.requires.prints ∙ listed))) (g.O.Sink.model c.print_match.new.out)
-    (subst (λ n. TakesPrefix (match_output style name (n, take (end - start) (drop start block))) (g.O.Sink.model c.loop-k.out)
-    (g.O.Sink.model c.print_match.new.out)) c.add_match.ensures.lines c.in_err-print_match.ensures.written)))
+    let p = err_from_is_err_and c.from_residual.result c.from_residual.ensures.1 in (
+      rw p.1 (λ has_match decides.
+          let i = c.loop-k.invariant in
+          let block = c.args.block.now in
+          let from = c.args.part.start in
+          let offset = c.loop-k.offset in
+          let l = c.line_to-line.ensures in
+          let start = c.line_to-line.result.start in
+          let end = c.line_to-line.result.end in
+          let style = c.args.printer.now.style in
+          let name = c.args.printer.now.name.now in
+          let mid = c.count_skipped.new.tally in
+          let within : c.loop-k.k < length c.args.matcher.now.ends = omega (arith, c.loop-k-test.true, ap (λ (xs : List ℕ). length xs) c.listed-k-end.ensures) in
+          let first = next has_match block c.listed.result.now c.loop-k.matcher.ends c.args.matcher.now.ends offset c.args.part.end c.loop-k.k
+          i.high c.requires.lines.high within (i.rest has_match decides) c.listed.ensures i.ends in
+          let counted = counted_line block from offset start end i.lines l.line style c.args.tally.now.lines c.loop-k.tally.lines mid.lines
+          c.add_match.new.self.lines i.counted c.count_skipped.ensures.lines c.add_match.ensures.lines in
+          prefix_of block from (end + 1) c.args.part.end (to_next block from offset start end i.lines l.line)
+          (ends_within end _ c.args.part.end l.end first.high) style name has_match (c.args.tally.now.lines + 1)
+          (g.O.Sink.model c.args.out.now) (g.O.Sink.model c.print_match.new.out)
+          (prefix_line block from offset start end i.lines l.line style name has_match c.args.tally.now c.loop-k.tally mid
+          (g.O.Sink.model c.args.out.now) (g.O.Sink.model c.loop-k.out) i.counted.exact (i.tests has_match decides)
+          (first_skips has_match block offset c.args.part.end _ _ c.requires.lines.high first start end l.end l.line) c.count_skipped.ensures.matches
+          counted.0.exact (first_matches has_match block offset c.args.part.end _ _ c.requires.lines.high first start end l.end l.line)
+          (λ listed. absurd (false≢true (sym c.requires.prints ∙ listed))) (g.O.Sink.model c.print_match.new.out)
+          (subst (λ n. TakesPrefix (match_output style name (n, take (end - start) (drop start block))) (g.O.Sink.model c.loop-k.out)
+          (g.O.Sink.model c.print_match.new.out)) c.add_match.ensures.lines c.in_err-print_match.ensures.0))),
+      search rules,
+    )
 
 pub returns-in_err-print_match-clause-work : goal.returns-in_err-print_match-clause-work
 returns-in_err-print_match-clause-work g c =
@@ -249,17 +251,20 @@ returns-clause-lines g c =
     c.loop-k.tally.lines c.count_skipped-2.new.tally.lines i.counted c.count_skipped-2.ensures.lines
 
 pub returns-clause-tests : goal.returns-clause-tests
-returns-clause-tests g c = λ has_match decides.
-    let i = c.loop-k.invariant in
-    let block = c.args.block.now in
-    let offset = c.loop-k.offset in
-    let style = c.args.printer.now.style in
-    let name = c.args.printer.now.name.now in
-    let now = g.O.Sink.model c.loop-k.out in
-    let all : length c.args.matcher.now.ends ≤ c.loop-k.k =
-    omega (arith, c.loop-k-test.false, ap (λ (xs : List ℕ). length xs) c.listed-k-end.ensures) in
-    let none = none_listed has_match block offset c.args.part.end i.high c.requires.lines.high
-    (sym (i.rest has_match decides) ∙ drop_all c.loop-k.k c.args.matcher.now.ends all) in
-    tests_on block c.args.part.start offset c.args.part.end i.lines i.high style name has_match c.args.tally.now c.loop-k.tally
-    (g.O.Sink.model c.args.out.now) now i.counted.exact (i.tests has_match decides) c.count_skipped-2.new.tally now
-    (Tests-skipped style name has_match _ c.loop-k.tally c.count_skipped-2.new.tally now none c.count_skipped-2.ensures.matches)
+returns-clause-tests g c = (
+  (λ has_match decides.
+      let i = c.loop-k.invariant in
+      let block = c.args.block.now in
+      let offset = c.loop-k.offset in
+      let style = c.args.printer.now.style in
+      let name = c.args.printer.now.name.now in
+      let now = g.O.Sink.model c.loop-k.out in
+      let all : length c.args.matcher.now.ends ≤ c.loop-k.k =
+      omega (arith, c.loop-k-test.false, ap (λ (xs : List ℕ). length xs) c.listed-k-end.ensures) in
+      let none = none_listed has_match block offset c.args.part.end i.high c.requires.lines.high
+      (sym (i.rest has_match decides) ∙ drop_all c.loop-k.k c.args.matcher.now.ends all) in
+      tests_on block c.args.part.start offset c.args.part.end i.lines i.high style name has_match c.args.tally.now c.loop-k.tally
+      (g.O.Sink.model c.args.out.now) now i.counted.exact (i.tests has_match decides) c.count_skipped-2.new.tally now
+      (Tests-skipped style name has_match _ c.loop-k.tally c.count_skipped-2.new.tally now none c.count_skipped-2.ensures.matches)),
+  search rules,
+)

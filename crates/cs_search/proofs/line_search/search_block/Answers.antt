@@ -1,4 +1,4 @@
-use Rattle.std.proofs.Common.{◌≡◌, ◌≤◌, ◌+◌, Bool, true, false, List, ℕ, length, take, drop, MatchBool, sym, ap, subst, ◌∙◌, arith}
+use Rattle.std.proofs.Common.{◌≡◌, ◌≤◌, ◌+◌, Bool, true, false, List, ℕ, length, take, drop, MatchBool, sym, ap, subst, ◌∙◌, arith, rules}
 use Rattle.std.proofs.lemmas.Bool.{false≢true}
 use Rattle.cs_search.specs.TestedLines.{CountsLines, Tests, TestsPrefix, IsListed}
 use Rattle.cs_match.proofs.WholeLineLemmas.{ended_all, rest_is_last}
@@ -37,45 +37,55 @@ steps_of block stop within whole rest n old mid new is steps = (
 )
 
 pub returns-then-branch-clause-tests : goal.returns-then-branch-clause-tests
-returns-then-branch-clause-tests g c = λ has_match decides.
-    let e = c.ended_len-stop.ensures in
-    subst (λ (ls : List (List ℕ)). IsListed c.args.printer.now.style c.args.printer.now.name.now has_match ls
-    (c.args.tally.now.lines + 1) c.search_lines.new.tally (g.O.Sink.model c.args.out.now)
-    (g.O.Sink.model c.search_lines.new.out)) (sym (ended_all c.args.block.now c.ended_len-stop.result e.whole e.rest))
-    (at_true _ _ c.in_ok-search_lines.field-0 c.if-branch.true
-    (c.in_ok-search_lines.ensures.tests has_match (subst (Decides has_match) (sym (tree_of _ c.args.matcher.now c.add_steps.new.self c.add_steps.ensures)) decides)))
+returns-then-branch-clause-tests g c = (
+  (λ has_match decides.
+      let e = c.ended_len-stop.ensures in
+      subst (λ (ls : List (List ℕ)). IsListed c.args.printer.now.style c.args.printer.now.name.now has_match ls
+      (c.args.tally.now.lines + 1) c.search_lines.new.tally (g.O.Sink.model c.args.out.now)
+      (g.O.Sink.model c.search_lines.new.out)) (sym (ended_all c.args.block.now c.ended_len-stop.result e.whole e.rest))
+      (at_true _ _ c.in_ok-search_lines.field-0 c.if-branch.true
+      (c.in_ok-search_lines.ensures.tests.0 has_match (subst (Decides has_match) (sym (tree_of _ c.args.matcher.now c.add_steps.new.self c.add_steps.ensures)) decides)))),
+  search rules,
+)
 
 pub returns-in_err-search_lines-clause-tests : goal.returns-in_err-search_lines-clause-tests
 returns-in_err-search_lines-clause-tests g c =
-    let p = err_from_is_err_and c.from_residual.result c.from_residual.ensures.1 in
-    rw p.1 (λ has_match decides.
-    let e = c.ended_len-stop.ensures in
-    subst (λ (ls : List (List ℕ)). TestsPrefix c.args.printer.now.style c.args.printer.now.name.now has_match ls
-    (c.args.tally.now.lines + 1) (g.O.Sink.model c.args.out.now) (g.O.Sink.model c.search_lines.new.out))
-    (sym (ended_all c.args.block.now c.ended_len-stop.result e.whole e.rest))
-    (c.in_err-search_lines.ensures.tests has_match (subst (Decides has_match) (sym (tree_of _ c.args.matcher.now c.add_steps.new.self c.add_steps.ensures)) decides)))
+    let p = err_from_is_err_and c.from_residual.result c.from_residual.ensures.1 in (
+      rw p.1 (λ has_match decides.
+          let e = c.ended_len-stop.ensures in
+          subst (λ (ls : List (List ℕ)). TestsPrefix c.args.printer.now.style c.args.printer.now.name.now has_match ls
+          (c.args.tally.now.lines + 1) (g.O.Sink.model c.args.out.now) (g.O.Sink.model c.search_lines.new.out))
+          (sym (ended_all c.args.block.now c.ended_len-stop.result e.whole e.rest))
+          (c.in_err-search_lines.ensures.tests.0 has_match (subst (Decides has_match) (sym (tree_of _ c.args.matcher.now c.add_steps.new.self c.add_steps.ensures)) decides))),
+      search rules,
+    )
 
 pub returns-clause-rest : goal.returns-clause-rest
 returns-clause-rest g c =
     let e = c.ended_len-stop.ensures in
     (e.within, rest_is_last c.args.block.now c.ended_len-stop.result e.whole e.rest)
 
-pub returns-clause-lines : goal.returns-clause-lines
-returns-clause-lines g c =
-    let e = c.ended_len-stop.ensures in
-    subst (λ (ls : List (List ℕ)). CountsLines c.args.printer.now.style c.args.tally.now.lines
-    c.search_lines.new.tally.lines (length ls))
-    (sym (ended_all c.args.block.now c.ended_len-stop.result e.whole e.rest))
-    (c.in_ok-search_lines.ensures.lines c.if-branch.false)
+pub returns-clause-goes_on : goal.returns-clause-goes_on
+returns-clause-goes_on g c =
+    let e = c.ended_len-stop.ensures in (
+      subst (λ (ls : List (List ℕ)). CountsLines c.args.printer.now.style c.args.tally.now.lines
+          c.search_lines.new.tally.lines (length ls))
+          (sym (ended_all c.args.block.now c.ended_len-stop.result e.whole e.rest))
+          (c.in_ok-search_lines.ensures.goes_on c.if-branch.false).0,
+      (c.in_ok-search_lines.ensures.goes_on c.if-branch.false).1,
+    )
 
 pub returns-clause-tests : goal.returns-clause-tests
-returns-clause-tests g c = λ has_match decides.
-    let e = c.ended_len-stop.ensures in
-    subst (λ (ls : List (List ℕ)). Tests c.args.printer.now.style c.args.printer.now.name.now has_match ls
-    c.args.tally.now c.search_lines.new.tally (g.O.Sink.model c.args.out.now) (g.O.Sink.model c.search_lines.new.out))
-    (sym (ended_all c.args.block.now c.ended_len-stop.result e.whole e.rest))
-    (at_false _ _ c.in_ok-search_lines.field-0 c.if-branch.false
-    (c.in_ok-search_lines.ensures.tests has_match (subst (Decides has_match) (sym (tree_of _ c.args.matcher.now c.add_steps.new.self c.add_steps.ensures)) decides)))
+returns-clause-tests g c = (
+  (λ has_match decides.
+      let e = c.ended_len-stop.ensures in
+      subst (λ (ls : List (List ℕ)). Tests c.args.printer.now.style c.args.printer.now.name.now has_match ls
+      c.args.tally.now c.search_lines.new.tally (g.O.Sink.model c.args.out.now) (g.O.Sink.model c.search_lines.new.out))
+      (sym (ended_all c.args.block.now c.ended_len-stop.result e.whole e.rest))
+      (at_false _ _ c.in_ok-search_lines.field-0 c.if-branch.false
+      (c.in_ok-search_lines.ensures.tests.0 has_match (subst (Decides has_match) (sym (tree_of _ c.args.matcher.now c.add_steps.new.self c.add_steps.ensures)) decides)))),
+  search rules,
+)
 
 pub returns-then-branch-clause-work : goal.returns-then-branch-clause-work
 returns-then-branch-clause-work g c =

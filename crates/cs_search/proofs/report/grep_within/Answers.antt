@@ -14,7 +14,7 @@ returns-in-Listed-clause-report g c = λ has_match decides.
     let s = rw c.in-Listed.is at c.in_ok-search_input.ensures in
     let printer = c.args.printer.now in
     Reports-listed printer.style printer.name.now has_match c.new-tally.result c.search_input.new.tally
-    c.new-tally.ensures.lines c.new-tally.ensures.matches (g.O.Sink.model c.args.out.now)
+    c.new-tally.ensures.0 c.new-tally.ensures.1 (g.O.Sink.model c.args.out.now)
     (g.O.Sink.model c.search_input.new.out) c.args.limit (g.R.Source.model c.args.input.now) (s.tests has_match decides)
 
 pub returns-in-Faulted-clause-report : goal.returns-in-Faulted-clause-report
@@ -22,7 +22,7 @@ returns-in-Faulted-clause-report g c = λ has_match decides.
     let s = rw c.in-Faulted.is at c.in_ok-search_input.ensures in
     let printer = c.args.printer.now in
     Reports-left printer.style printer.name.now has_match c.new-tally.result c.search_input.new.tally
-    c.new-tally.ensures.lines c.new-tally.ensures.matches (g.O.Sink.model c.args.out.now)
+    c.new-tally.ensures.0 c.new-tally.ensures.1 (g.O.Sink.model c.args.out.now)
     (g.O.Sink.model c.search_input.new.out) c.args.limit (g.R.Source.model c.args.input.now) c.in-Faulted.fault _ _
     s.stops s.unlisted (s.tests has_match decides)
 
@@ -32,9 +32,9 @@ returns-in_ok-end_search-in-End-clause-report g c = λ has_match decides.
     let printer = c.args.printer.now in
     let model = g.R.Source.model c.args.input.now in
     let mid = c.search_input.new.tally in
-    let e = c.in_ok-end_search-in-End.ensures.ends has_match (subst (Decides has_match) (sym s.same) decides) in
+    let e = c.in_ok-end_search-in-End.ensures.ends.0 has_match (subst (Decides has_match) (sym s.same) decides) in
     Reports-end printer.style printer.name.now has_match c.new-tally.result c.end_search.new.tally
-    c.new-tally.ensures.lines c.new-tally.ensures.matches (g.O.Sink.model c.args.out.now)
+    c.new-tally.ensures.0 c.new-tally.ensures.1 (g.O.Sink.model c.args.out.now)
     e.tested c.args.limit model mid (g.O.Sink.model c.search_input.new.out)
     c.pending.result.now (g.O.Sink.model c.end_search.new.out)
     (subst (λ r. Stops c.args.printer.now.style c.args.limit End model r mid.lines) (sym c.pending.ensures) s.stops)
@@ -45,8 +45,8 @@ returns-in_err-search_input-clause-report g c =
     let p = err_from_is_err_and c.from_residual.result c.from_residual.ensures.1 in
     rw p.1 (λ has_match decides.
     let printer = c.args.printer.now in
-    ReportsPrefix-read printer.style printer.name.now has_match c.new-tally.result c.new-tally.ensures.lines
-    c.new-tally.ensures.matches (g.O.Sink.model c.args.out.now) c.args.limit (g.R.Source.model c.args.input.now)
+    ReportsPrefix-read printer.style printer.name.now has_match c.new-tally.result c.new-tally.ensures.0
+    c.new-tally.ensures.1 (g.O.Sink.model c.args.out.now) c.args.limit (g.R.Source.model c.args.input.now)
     (g.O.Sink.model c.search_input.new.out) (c.in_err-search_input.ensures.tests has_match decides))
 
 pub returns-in_err-end_search-in-End-clause-report : goal.returns-in_err-end_search-in-End-clause-report
@@ -57,12 +57,12 @@ returns-in_err-end_search-in-End-clause-report g c =
     let printer = c.args.printer.now in
     let model = g.R.Source.model c.args.input.now in
     let mid = c.search_input.new.tally in
-    ReportsPrefix-ended printer.style printer.name.now has_match c.new-tally.result c.new-tally.ensures.lines
-    c.new-tally.ensures.matches (g.O.Sink.model c.args.out.now) c.args.limit model mid c.end_search.new.tally
+    ReportsPrefix-ended printer.style printer.name.now has_match c.new-tally.result c.new-tally.ensures.0
+    c.new-tally.ensures.1 (g.O.Sink.model c.args.out.now) c.args.limit model mid c.end_search.new.tally
     (g.O.Sink.model c.search_input.new.out) c.pending.result.now (g.O.Sink.model c.end_search.new.out)
     (subst (λ r. Stops c.args.printer.now.style c.args.limit End model r mid.lines) (sym c.pending.ensures) s.stops)
     s.unlisted (s.tests has_match decides)
-    (c.in_err-end_search-in-End.ensures.ends has_match (subst (Decides has_match) (sym s.same) decides)))
+    (c.in_err-end_search-in-End.ensures.ends.0 has_match (subst (Decides has_match) (sym s.same) decides)))
 
 pub search_input-requires-clause-empty : goal.search_input-requires-clause-empty
 unfolding pending_bytes

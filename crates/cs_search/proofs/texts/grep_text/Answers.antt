@@ -16,26 +16,26 @@ rest_of text start = take (length text - start) (drop start text)
 pub end_search-requires : goal.end_search-requires
 end_search-requires g c =
     let s = rw c.in-Some.is at c.in_ok-search_block.ensures in
-    omega (arith, s.lines.bound, c.new-tally.ensures.lines, lines_within c.args.text.now)
+    omega (arith, s.goes_on.0.bound, c.new-tally.ensures.0, lines_within c.args.text.now)
 
 pub returns-in-None-clause-report : goal.returns-in-None-clause-report
 returns-in-None-clause-report g c = λ has_match decides.
     let s = rw c.in-None.is at c.in_ok-search_block.ensures in
     let printer = c.args.printer.now in
     reported_listed printer.style printer.name.now has_match c.args.text.now c.new-tally.result c.search_block.new.tally
-    c.new-tally.ensures.lines c.new-tally.ensures.matches (g.O.Sink.model c.args.out.now)
-    (g.O.Sink.model c.search_block.new.out) (s.tests has_match decides) None
+    c.new-tally.ensures.0 c.new-tally.ensures.1 (g.O.Sink.model c.args.out.now)
+    (g.O.Sink.model c.search_block.new.out) (s.tests.0 has_match decides) None
 
 pub returns-in_ok-end_search-in-Some-clause-report : goal.returns-in_ok-end_search-in-Some-clause-report
 returns-in_ok-end_search-in-Some-clause-report g c = λ has_match decides.
     let s = rw c.in-Some.is at c.in_ok-search_block.ensures in
     let printer = c.args.printer.now in
-    let e = c.in_ok-end_search-in-Some.ensures.ends has_match (subst (Decides has_match) (sym s.work.0) decides) in
+    let e = c.in_ok-end_search-in-Some.ensures.ends.0 has_match (subst (Decides has_match) (sym s.work.0) decides) in
     reported_end printer.style printer.name.now has_match c.args.text.now c.new-tally.result c.end_search.new.tally
-    c.new-tally.ensures.lines c.new-tally.ensures.matches (g.O.Sink.model c.args.out.now) e.tested c.search_block.new.tally
+    c.new-tally.ensures.0 c.new-tally.ensures.1 (g.O.Sink.model c.args.out.now) e.tested c.search_block.new.tally
     (g.O.Sink.model c.search_block.new.out) (rest_of c.args.text.now c.in-Some.start) (g.O.Sink.model c.end_search.new.out)
     (take_rest c.args.text.now c.in-Some.start ∙ s.rest.1)
-    (λ shown. omega (arith, s.lines.exact shown, c.new-tally.ensures.lines)) s.unlisted (s.tests has_match decides)
+    (λ shown. omega (arith, s.goes_on.0.exact shown, c.new-tally.ensures.0)) s.goes_on.1 (s.tests.0 has_match decides)
     e.tests e.written
 
 pub returns-in_err-search_block-clause-report : goal.returns-in_err-search_block-clause-report
@@ -45,7 +45,7 @@ returns-in_err-search_block-clause-report g c =
     let printer = c.args.printer.now in
     report_prefix printer.style printer.name.now has_match c.args.text.now (g.O.Sink.model c.args.out.now)
     (g.O.Sink.model c.search_block.new.out) None
-    (rw c.new-tally.ensures.lines at c.in_err-search_block.ensures.tests has_match decides))
+    (rw c.new-tally.ensures.0 at c.in_err-search_block.ensures.tests.0 has_match decides))
 
 pub returns-in_err-end_search-in-Some-clause-report : goal.returns-in_err-end_search-in-Some-clause-report
 returns-in_err-end_search-in-Some-clause-report g c =
@@ -53,12 +53,12 @@ returns-in_err-end_search-in-Some-clause-report g c =
     rw p.1 (λ has_match decides.
     let s = rw c.in-Some.is at c.in_ok-search_block.ensures in
     let printer = c.args.printer.now in
-    report_prefix-ended printer.style printer.name.now has_match c.new-tally.result c.new-tally.ensures.lines
-    c.new-tally.ensures.matches (g.O.Sink.model c.args.out.now) c.args.text.now c.search_block.new.tally
+    report_prefix-ended printer.style printer.name.now has_match c.new-tally.result c.new-tally.ensures.0
+    c.new-tally.ensures.1 (g.O.Sink.model c.args.out.now) c.args.text.now c.search_block.new.tally
     c.end_search.new.tally (g.O.Sink.model c.search_block.new.out) (rest_of c.args.text.now c.in-Some.start)
     (g.O.Sink.model c.end_search.new.out) (take_rest c.args.text.now c.in-Some.start ∙ s.rest.1)
-    (λ shown. omega (arith, s.lines.exact shown, c.new-tally.ensures.lines)) s.unlisted (s.tests has_match decides)
-    (c.in_err-end_search-in-Some.ensures.ends has_match (subst (Decides has_match) (sym s.work.0) decides)))
+    (λ shown. omega (arith, s.goes_on.0.exact shown, c.new-tally.ensures.0)) s.goes_on.1 (s.tests.0 has_match decides)
+    (c.in_err-end_search-in-Some.ensures.ends.0 has_match (subst (Decides has_match) (sym s.work.0) decides)))
 
 pub returns-in-None-clause-work : goal.returns-in-None-clause-work
 returns-in-None-clause-work g c =

@@ -3,10 +3,10 @@ use Rattle.cs_search.specs.TestedLines.{total}
 use Rattle.cs_search.proofs.Printing.{printing}
 use Rattle.cs_search.proofs.printer.Printer.print_total.Goals as goal
 
-pub returns-in_err-print_count-clause-written : goal.returns-in_err-print_count-clause-written
+pub returns-in_err-print_count : goal.returns-in_err-print_count
 unfolding total
-returns-in_err-print_count-clause-written g c = search (rules, printing)
+returns-in_err-print_count g c = search (rules, printing)
 
-pub returns-clause-written : goal.returns-clause-written
+pub returns : goal.returns
 unfolding total
-returns-clause-written g c = search (rules, printing)
+returns g c = search (rules, printing)

@@ -106,29 +106,29 @@ fn words_at_all_offsets(rt: HostRuntime) {
 
 const SKIPPED: &[(&str, &str, &str)] = &[
     // Words that are searched for by pairs of bytes.
-    ("^#include$", "#includ", "#includes"),
+    ("^#include\\B", "#includ", "#include"),
     ("static.*struct", "struct", "static"),
     ("struct.*block", "struct", "blocks"),
-    ("\\binline\\b", "in line", "inlined"),
+    ("\\binline\\B", "in line", "inline"),
     ("(alpha|beta)gamma", "alpha", "gamma"),
-    ("^(a|b)*q.*d$", "abd", "q"),
+    ("^(a|b)*q.*d", "abd", "q"),
     ("ab+cq", "ab", "bcqa"),
-    ("e(qz)+e$", "qze", "eqz"),
-    ("(eq)+z$", "eq z", "eqz."),
+    ("e(qz)+e\\B", "qze", "eqz"),
+    ("(eq)+z\\B", "eq z", "eqz."),
     ("x(.q)+z", "x.q", "qzx"),
     ("ab*zq", "ab", "zqa"),
     ("ab?zq", "ab", "zqa"),
-    ("(ax){3}$", "axax", "axaxax."),
+    ("(ax){3}\\B", "axax", "axaxax."),
     ("a{2,}zq", "zq", "azq"),
-    ("q$z^\\b\\Bj", "qz", "qzj"),
-    ("(?i)zeal$", "eAl", "zEAls"),
-    ("(?i)a_1$", "A\u{7f}1", "A_1s"),
+    ("q\\Bz\\Bj\\B", "qz", "qzj"),
+    ("(?i)zeal\\B", "eAl", "zEAl."),
+    ("(?i)a_1\\B", "A\u{7f}1", "A_1."),
     ("(static.*struct)|\\n\\n\\n", "stat struct", "static"),
     ("(?i)(zebra|crossing)$", "missing", "aCrOssings"),
     ("[^a-z]q[^u]", "no p", "aq."),
-    (";$", "no end", "a;b"),
+    (";\\B", "no end", "a;b"),
     // Words that are searched for by their first three sets.
-    ("[0-9]{3}-[0-9]{4}$", "1-3456", "123-4567."),
+    ("[0-9]{3}-[0-9]{4}\\B", "1-3456", "123-4567."),
     ("(alpha|beta|gamma)$", "alph eta amma", "alphas"),
     ("(alpha|beta|gamma)$", "amma", "gammas"),
 ];
@@ -150,6 +150,10 @@ fn what_lines_are_skipped(rt: HostRuntime) {
     }
     // A word of an exact prefilter is a match.
     assert!(rt; is_read(rt.alloc(), "alpha|beta|gamma", "alph gamm") == Some(false));
+    // So are words with edges and the ends of a line.
+    assert!(rt; is_read(rt.alloc(), "\\binline\\b", "inlined") == Some(false));
+    assert!(rt; is_read(rt.alloc(), "^#include", "x#include") == Some(false));
+    assert!(rt; is_read(rt.alloc(), ";$", "a;b") == Some(false));
     // The lazy DFA.
     assert!(rt; is_read(rt.alloc(), "(static.*struct)|\\n", "static") == Some(true));
 }

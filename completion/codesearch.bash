@@ -5,7 +5,7 @@ _codesearch() {
     COMPREPLY=()
     if [[ $tool == codesearch ]]; then
         if ((COMP_CWORD == 1)); then
-            mapfile -t COMPREPLY < <(compgen -W 'cindex csearch cgrep' -- "$word")
+            mapfile -t COMPREPLY < <(compgen -W 'cindex csearch cgrep cs' -- "$word")
             return
         fi
         tool=${COMP_WORDS[1]}
@@ -17,7 +17,13 @@ _codesearch() {
         cgrep) options='-c -h -i -l -n' ;;
         cs)
             # its options may stand anywhere
-            [[ $word == -* ]] && mapfile -t COMPREPLY < <(compgen -W '-0 -A -B -C -F -H -N -S -c -e -i -l -m -n -w --color= --column
+            [[ $word == -* ]] || return
+            if ((first == 2)); then
+                mapfile -t COMPREPLY < <(compgen -W '-0 -A -B -C -F -H -L -N -S -T -a -c -d -e -g -h -i -l -m -n -o -q -s -t -u -v -w -x
+                    --color= --column --files --heading --help --hidden --type-list --version --vimgrep' -- "$word")
+                return
+            fi
+            mapfile -t COMPREPLY < <(compgen -W '-0 -A -B -C -F -H -N -S -c -e -i -l -m -n -w --color= --column
                 --help --json --no-refresh --version --vimgrep' -- "$word")
             return
             ;;

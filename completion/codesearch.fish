@@ -29,7 +29,21 @@ for tool in cindex csearch cgrep
     __codesearch_options $tool '' $tool
     __codesearch_options codesearch "__fish_seen_subcommand_from $tool" $tool
 end
-complete -c codesearch -n 'not __fish_seen_subcommand_from cindex csearch cgrep' -f -a 'cindex csearch cgrep'
+complete -c codesearch -n 'not __fish_seen_subcommand_from cindex csearch cgrep cs' -f -a 'cindex csearch cgrep cs'
+for option in F/fixed-strings i/ignore-case S/smart-case s/case-sensitive w/word-regexp x/line-regexp v/invert-match a/text c/count \
+        l/files-with-matches L/files-without-match o/only-matching q/silent n/line-number N/no-line-number H/with-filename \
+        h/no-filename 0/null u/unrestricted
+    set -l names (string split / $option)
+    complete -c codesearch -n '__fish_seen_subcommand_from cs' -s $names[1] -l $names[2]
+end
+for option in e/regexp m/max-count A/after-context B/before-context C/context g/glob t/type T/type-not d/max-depth
+    set -l names (string split / $option)
+    complete -c codesearch -n '__fish_seen_subcommand_from cs' -s $names[1] -l $names[2] -x
+end
+for option in column vimgrep heading hidden files type-list help version
+    complete -c codesearch -n '__fish_seen_subcommand_from cs' -l $option
+end
+complete -c codesearch -n '__fish_seen_subcommand_from cs' -l color -x -a 'always never auto'
 
 complete -c cs -s F -l fixed-strings -d 'a text, not a regular expression'
 complete -c cs -s i -l ignore-case -d 'letters match in either case'

@@ -123,7 +123,8 @@ if command -v bash > /dev/null; then
         completes "$(options $tool | sed 's/^/-/' | paste -sd ' ')" $tool -
         completes "$(options $tool | sed 's/^/-/' | paste -sd ' ')" codesearch $tool -
     done
-    completes 'csearch' codesearch cs
+    completes 'csearch cs' codesearch cs
+    completes '--heading --help --hidden' codesearch cs x --h
     completes '-brute' csearch -i -f '^/' -b
     completes '' csearch -f -b
     completes '' csearch word -b

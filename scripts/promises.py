@@ -9,14 +9,14 @@ the mutants; and `not proved:`. A name of another crate has the crate before it,
 definitions and files is made from src and specs/.
 
 --check fails if a promise names a function, a clause, a field or a mutant that is not there, or has neither a mutant nor says why,
-and if docs/PROMISES.md names a clause that no promise has. Before, it tries each of these tests on a wrong promise."""
+if a text that a mutant changes does not occur once, and if docs/PROMISES.md names a clause that no promise has. Before, it tries each of these tests on a wrong promise."""
 import re
 import sys
 from collections import defaultdict
 from pathlib import Path
 
 sys.dont_write_bytecode = True
-from mutants import is_judged, mutants
+from mutants import Mutant, is_judged, mutants
 from trusted import imports, reached, words
 
 top = Path(__file__).resolve().parent.parent
@@ -125,6 +125,15 @@ def stale(crate, text):
     return [f"{crate}: {it.says.split('.')[0][:70]}: {error}" for it in promises(crate, text) for error in it.errors]
 
 
+def unfit(crate, mutant):
+    """The texts of a mutant that do not occur once in their file, where each is looked for after the changes before it."""
+    files = {path: (crates / crate / path).read_text() for path, _old, _new in mutant.changes}
+    for path, old, new in mutant.changes:
+        if files[path].count(old) != 1:
+            yield f"{crate}: {mutant.name}: {files[path].count(old)} times in {path}: {old}"
+        files[path] = files[path].replace(old, new)
+
+
 def unnamed(page, listed):
     """The clauses that the page names and no promise has: each `function`: `clause`."""
     named = {(it.name, clause) for promise in listed for it, clause in promise.clauses}
@@ -165,8 +174,11 @@ def main():
     ]:
         if not stale("cs_tree", wrong):
             sys.exit(f"promises.py: not found: {wrong}")
+    if not [*unfit("cs_tree", Mutant(crates / "cs_tree", "none", "file: src/paths.rt\nold: no such text\nnew: none"))]:
+        sys.exit("promises.py: not found: a text that is not there")
     listed = {crate: promises(crate, text) for crate, text in texts.items()}
     found = [error for crate, text in texts.items() for error in stale(crate, text)]
+    found += [it for crate, some in edits.items() for mutant in some.values() for it in unfit(crate, mutant)]
     found += unnamed((top / "docs/PROMISES.md").read_text(), [it for some in listed.values() for it in some])
     if "--check" in sys.argv:
         print(*found, sep="\n", end="\n" if found else "")

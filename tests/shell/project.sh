@@ -1,0 +1,222 @@
+#!/bin/sh
+# Compares `codesearch cs` with rg, git grep and grep over small trees: forms, choices of files, odd names and errors.
+# usage: tests/shell/project.sh PROGRAM
+
+. "$(dirname -- "$0")/library.sh"
+
+LC_ALL=C
+export LC_ALL
+ln -s "$program" "$fresh/cs"
+PATH=$fresh:$PATH
+mkdir -p "$fresh/tree/sub/deep" "$fresh/tree/.hidden" "$fresh/tree/out"
+cd "$fresh/tree" || exit 2
+mkdir .git
+printf 'out/\n*.log\n!kept.log\n' > .gitignore
+printf 'x\nab ab\ny\nz\nab ab\n' > f
+printf 'ab\n' > sub/g
+printf 'one ab\n\nlast ab' > sub/deep/h.c
+printf 'ab\0ab\n' > binary
+printf 'abc\nAB\n' > .hidden/i
+printf 'ab\n' > out/ignored
+printf 'ab\n' > a.log
+printf 'ab\n' > kept.log
+printf 'no match\n' > 'name with space'
+printf 'ab\n' > "$(printf 'new\nline')"
+printf 'ab(\n' > 'a*b[c]'
+
+# prints STATUS OUTPUT ERRORS COMMAND: the output and the errors have \n and \0 for a newline and a NUL
+prints() {
+    printf "$2" > "$fresh/wanted"
+    printf "$3" > "$fresh/wanted.err"
+    eval "$4" > "$fresh/came" 2> "$fresh/came.err" < /dev/null
+    came=$?
+    printf 'status %s\n' "$1" >> "$fresh/wanted.err"
+    printf 'status %s\n' "$came" >> "$fresh/came.err"
+    same wanted came
+    same wanted.err came.err
+}
+
+# as_rg ARGUMENTS..: the bytes and the status of rg, whose files are sorted
+as_rg() {
+    command -v rg > /dev/null || return 0
+    rg --no-config --no-messages --hidden -g '!.git' --sort path --no-heading "$@" > "$fresh/wanted" 2> /dev/null < /dev/null
+    wanted=$?
+    cs "$@" > "$fresh/came" 2> /dev/null < /dev/null
+    came=$?
+    holds "[ $came = $wanted ] || echo 'status $came, not $wanted: $*'; [ $came = $wanted ]"
+    same wanted came
+}
+
+command -v rg > /dev/null || skipped 'rg is not here'
+
+# ---- forms --------------------------------------------------------------------------------------------------------------
+as_rg ab f
+as_rg ab f sub
+as_rg -n ab f
+as_rg -n -B1 ab f sub
+as_rg -n -C1 ab sub
+as_rg -A1 -B2 ab sub
+as_rg -c ab f sub
+as_rg -l ab f sub
+as_rg -o ab f
+as_rg -o -n -m1 ab f sub
+as_rg -v ab f
+as_rg -c -v ab f sub
+as_rg -w abc f sub
+as_rg -x ab f sub
+as_rg -i AB f
+as_rg -S AB f
+as_rg -F 'ab(' 'a*b[c]'
+as_rg -e x -e y f
+as_rg -H ab f
+as_rg -N ab f
+as_rg --column ab f sub
+as_rg --vimgrep ab f sub
+as_rg -m1 ab f sub
+as_rg -l -0 ab sub
+as_rg zzz
+as_rg '^$' sub
+as_rg -t c ab sub
+as_rg -T c ab sub
+as_rg --max-depth 1 ab sub
+as_rg -- ab f
+as_rg ab ./sub
+as_rg ab sub/
+prints 0 'x\nab ab\ny\nz\nab ab\n' '' "cs '' f"
+prints 0 'f:2:1:ab ab\nf:2:4:ab ab\n' '' "cs --vimgrep -m1 ab f"
+prints 0 'f\n2:ab ab\n3-y\n--\n5:ab ab\n\nsub/g\n1:ab\n' '' "cs --heading -n -A1 ab f sub/g"
+prints 0 'sub/deep/h.c:1:one ab\nsub/deep/h.c:3:last ab\nsub/g:1:ab\n' '' "cs -n ab sub"
+prints 0 'sub/deep/h.c\0sub/g\0' '' "cs -l -0 ab sub"
+prints 1 'f\n' '' "cs -L zzz f"
+prints 1 '' '' "cs zzz"
+
+# ---- which files --------------------------------------------------------------------------------------------------------
+prints 0 '.gitignore\n.hidden/i\na*b[c]\nbinary\nf\nkept.log\nname with space\nnew\nline\nsub/deep/h.c\nsub/g\n' '' "cs --files"
+prints 0 'sub/deep/h.c\0sub/g\0' '' "cs --files -0 sub"
+prints 0 'sub/deep/h.c\n' '' "cs --files -g '*.c'"
+prints 0 'a.log\nout/ignored\n' '' "cs --files -u -g '*.log' -g 'ignored' -g '!kept*'"
+prints 0 'out/ignored:ab\n' '' "cs ab out"
+prints 0 'ab\n' '' "cs ab out/ignored"
+if command -v git > /dev/null; then
+    mkdir "$fresh/git"
+    cp -r . "$fresh/git/tree"
+    (cd "$fresh/git/tree" && rmdir .git && git init -q . && git ls-files -z --cached --others --exclude-standard) | tr '\0' '\n' | sort > "$fresh/wanted"
+    (cd "$fresh/git/tree" && cs --files) | sort > "$fresh/came"
+    same wanted came
+fi
+cs -l ab > found
+prints 0 'f\nkept.log\n' '' "grep -x -e f -e kept.log found"
+prints 1 '' '' "grep -x found found"
+rm found
+
+# ---- links, pipes, what cannot be read ----------------------------------------------------------------------------------
+ln -s sub link
+ln -s f to_f
+mkfifo pipe
+prints 0 'link/deep/h.c:one ab\nlink/deep/h.c:last ab\nlink/g:ab\n' '' "cs ab link"
+prints 0 'ab ab\nab ab\n' '' "cs ab to_f"
+prints 0 'pipe:ab\nsub/g:ab\n' '' "{ echo ab > pipe & cs ab pipe sub/g; }"
+prints 2 'sub/g:ab\n' 'cs: missing: no such file\n' "cs ab missing sub/g"
+rm link to_f pipe
+if [ "$(id -u)" != 0 ]; then
+    mkdir closed
+    printf 'ab\n' > closed/j
+    printf 'ab\n' > unread
+    chmod 0 closed unread
+    prints 2 'sub/g:ab\n' 'cs: closed: permission denied\ncs: unread: permission denied\n' "cs ab closed sub/g unread"
+    chmod 700 closed
+    rm -r closed unread
+fi
+
+# ---- bad input ----------------------------------------------------------------------------------------------------------
+mkdir -p "$fresh/bad/.git/info" "$fresh/bad/sub"
+cd "$fresh/bad" || exit 2
+printf 'ab\n' > a
+printf 'ab\n' > sub/b
+# a name that is not UTF-8: the rest is searched
+printf 'ab\n' > "$(printf 'sub/\377')"
+prints 2 'a:ab\nsub/b:ab\n' 'cs: sub: the name of an entry is not UTF-8\n' "cs ab"
+rm sub/*[!b]
+# a rule file that is no text, one that is long, and 10,000 rules
+printf 'x\0y\n\377\nsub\n' > .gitignore
+prints 0 '.gitignore\na\n' '' "cs --files"
+head -c 1048577 /dev/zero | tr '\0' a > .gitignore
+prints 2 '.gitignore\na\nsub/b\n' 'cs: .gitignore: the rule file is too long\n' "cs --files"
+head -c 1048576 /dev/zero | tr '\0' a > .gitignore
+prints 0 '.gitignore\na\nsub/b\n' '' "cs --files"
+seq 10000 > .gitignore
+echo '!9999' >> .gitignore
+echo ab > 77
+echo ab > 9999
+prints 0 '.gitignore\n9999\na\nsub/b\n' '' "cs --files"
+rm 77 9999
+# hostile globs end
+{ printf '%01000d' 0 | sed 's/0/*a/g'; echo b; } > .gitignore
+touch "$(printf '%0200d' 0 | tr 0 a)"
+prints 0 '' '' "cs --files | grep -v -e '^aaa' -e '^\.gitignore$' -e '^a$' -e '^sub/b$'; :"
+rm aaa* .gitignore
+# a loop of links, and a link out of the project: nothing is followed that nobody named
+ln -s . loop
+ln -s / sub/out
+ln -s nowhere gone
+ln -s .gitignore rules
+prints 0 'a\nsub/b\n' '' "cs --files"
+prints 0 'loop/a:ab\nloop/sub/b:ab\n' '' "cs ab loop"
+prints 2 '' 'cs: gone: no such file\n' "cs ab gone"
+rm loop sub/out gone rules
+# a rule file that is a link is not read, as by git
+printf 'a\n' > rules
+ln -s rules .gitignore
+prints 0 'a\nrules\nsub/b\n' '' "cs --files"
+rm .gitignore rules
+# what git does not search of a repository inside, this does, by its own rules
+mkdir -p sub/inner/.git
+printf 'x\n' > .gitignore
+printf 'y\n' > sub/inner/.gitignore
+echo ab > sub/inner/x
+echo ab > sub/inner/y
+prints 0 '.gitignore\na\nsub/b\nsub/inner/.gitignore\nsub/inner/x\n' '' "cs --files"
+prints 0 '.gitignore\nx\n' '' "(cd sub/inner && cs --files)"
+printf 'x\n' > .ignore
+prints 0 'sub/inner/.gitignore\n' '' "cs --files -g '/sub/inner/*'"
+rm -r sub/inner .gitignore .ignore
+echo a > .git/info/exclude
+prints 0 'sub/b\n' '' "cs --files"
+prints 0 'a\nsub/b\n' '' "cs --files -u"
+prints 0 'ab\n' '' "cs ab a"
+# outside of a repository hidden names are left out
+mkdir "$fresh/plain"
+cd "$fresh/plain" || exit 2
+echo ab > .hidden
+echo ab > seen
+echo seen > .gitignore
+prints 0 'seen\n' '' "cs --files"
+prints 0 '.gitignore\n.hidden\nseen\n' '' "cs --files --hidden"
+echo seen > .ignore
+prints 0 '' '' "cs --files"
+cd "$fresh/tree" || exit 2
+
+# ---- outputs ------------------------------------------------------------------------------------------------------------
+prints 2 '' 'cs: output failed\n' "cs ab > /dev/full"
+seq 100000 > many
+prints 0 '1\n' '' "cs '' many | head -n 1"
+rm many
+
+# ---- errors -------------------------------------------------------------------------------------------------------------
+prints 2 '' 'cs: no pattern (cs --help)\n' "cs"
+prints 2 '' 'cs: unknown option: --nonsense (cs --help)\n' "cs --nonsense ab"
+prints 2 '' 'cs: an option of rg that cs does not have: --json\n' "cs --json ab"
+prints 2 '' 'cs: an option without a value: --count=3\n' "cs --count=3 ab"
+prints 2 '' 'cs: the last option needs a value\n' "cs ab -m"
+prints 2 '' 'cs: not a number: x\n' "cs -m x ab"
+prints 2 '' 'cs: not always, never or auto: red\n' "cs --color red ab"
+prints 2 '' 'cs: no such type (cs --type-list): zz\n' "cs -t zz ab"
+prints 2 '' 'cs: bad pattern at byte 1: a parenthesis closes no group\n' "cs 'a)'"
+prints 2 '' 'cs: bad pattern at byte 1: a parenthesis closes no group\n' "cs -e 'a)' -e '(b'"
+holds "cs --help | grep -q '^usage: cs'"
+holds "cs --type-list | grep -q '^c: '"
+holds "'$program' cs ab sub/g"
+# a closed output ends the search
+holds "cs '' . | head -n 1 | grep -q ."
+
+summary

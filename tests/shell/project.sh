@@ -178,7 +178,7 @@ echo ab > sub/inner/y
 prints 0 '.gitignore\na\nsub/b\nsub/inner/.gitignore\nsub/inner/x\n' '' "cs --files"
 prints 0 '.gitignore\nx\n' '' "(cd sub/inner && cs --files)"
 printf 'x\n' > .ignore
-prints 0 'sub/inner/.gitignore\n' '' "cs --files -g '/sub/inner/*'"
+prints 0 'sub/inner/.gitignore\nsub/inner/x\nsub/inner/y\n' '' "cs --files -g '/sub/inner/*'"
 rm -r sub/inner .gitignore .ignore
 echo a > .git/info/exclude
 prints 0 'sub/b\n' '' "cs --files"

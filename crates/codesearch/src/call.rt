@@ -1,6 +1,6 @@
 // What the arguments of the program mean: a tool, and its job.
-ghost use Rattle.std.specs.Prelude.{◌≡◌, [], Some, None, true, false, map, unwrap_or, IfOk, IfErr, IfSome, IsNone, MatchOption, option_copied, string_bytes};
-ghost use Rattle.codesearch.specs.Program.{IndexFile, tool_named, own_tool, tool_of, tool_args, absolute_folder, lacks_folder, IsCall, early_line, fault_line, is_of_lines, prints_lines, may_update};
+ghost use Rattle.std.specs.Prelude.{◌≡◌, [], Some, None, true, false, map, unwrap_or, IfOk, IfErr, IfSome, IsNone, MatchOption, option_copied, option_map, string_bytes};
+ghost use Rattle.codesearch.specs.Program.{IndexFile, tool_named, own_tool, tool_of, tool_args, project_args as project_args', absolute_folder, lacks_folder, IsCall, early_line, fault_line, is_of_lines, prints_lines, may_update};
 
 use crate::given::Given;
 use crate::outcome::ProgramFault;
@@ -72,6 +72,23 @@ impl<'a> Call<'a> {
     }
 }
 
+/// The arguments of `cs`, if it is called: the program is run by its name, as through a link, or by
+/// that of no tool, and the first argument is its name.
+pub(crate) fn project_args(given: &Given) -> Option<&[String]>
+    ensures { option_map (λ args. map string_bytes args.now) result ≡ project_args' given.now }
+{
+    if Path::new(given.program.as_str()).file_name() == Some("cs") {
+        return Some(given.args.as_slice());
+    }
+    if own_tool(given).is_some() {
+        return None;
+    }
+    match given.args.split_first() {
+        Some((first, args)) if first.as_str() == "cs" => Some(args),
+        _ => None,
+    }
+}
+
 /// The tool that is called, and its arguments. If the program is run by the name of a tool, as
 /// through a link, that tool is called, otherwise the one that the first argument names.
 fn called(given: &Given) -> Option<(Tool, &[String])>
@@ -119,7 +136,7 @@ fn folder_for(given: &Given, tool: Tool) -> Option<&str>
 }
 
 /// The current folder, if it begins with `/`.
-fn absolute_folder(given: &Given) -> Option<&str>
+pub(crate) fn absolute_folder(given: &Given) -> Option<&str>
     ensures { option_copied result ≡ absolute_folder given.now }
 {
     match &given.folder {

@@ -4,12 +4,19 @@ use crate::call::Call;
 use crate::running::World;
 use cs_args::Tool;
 use cs_storage::{DiskFolder, IndexPaths};
-use cs_tree::{BufferedSink, DiskTree, StdSink, StdSource};
+use cs_tree::{BufferedSink, DiskTree, StdSink, StdSource, is_absolute};
 use std::alloc::AllocError;
+use std::env;
+use std::env::VarError;
+use std::fs;
 use std::io::{Stderr, Stdin, Stdout};
+use std::os::unix::fs::FileTypeExt;
 
 /// The size of the buffer of standard output, in bytes.
 const OUTPUT_BYTES: usize = 65536;
+
+/// The file that standard output goes to.
+const OUTPUT: &str = "/proc/self/fd/1";
 
 /// The disk and the standard streams.
 pub(crate) type DiskWorld = World<
@@ -26,9 +33,61 @@ pub(crate) fn disk_world(rt: &HostRuntime, call: &Call<'_>) -> Result<DiskWorld,
         alloc: rt.alloc(),
         tree,
         input: StdSource::new(rt.stdin()),
-        out: BufferedSink::new(rt.alloc(), OUTPUT_BYTES, StdSink::new(rt.stdout()))?,
+        out: buffered_output(rt)?,
         err: StdSink::new(rt.stderr()),
     })
+}
+
+/// The disk without the file that standard output goes to, for a search of a project.
+pub(crate) fn project_tree(rt: &HostRuntime) -> Result<DiskTree<HostRuntime>, AllocError> {
+    let mut tree = DiskTree::new(rt.clone()?);
+    tree.exclude_output();
+    Ok(tree)
+}
+
+/// The folders of a user's settings, as git finds them: the home folder, and that of settings.
+#[derive(Drop)]
+pub(crate) struct SettingFolders {
+    pub(crate) home: String,
+    pub(crate) config: String,
+}
+
+impl SettingFolders {
+    /// Those that the environment names, if there is a home folder.
+    pub(crate) fn of_environment(rt: &HostRuntime) -> Result<Option<SettingFolders>, AllocError> {
+        let Some(home) = folder_in(rt, "HOME")? else {
+            return Ok(None);
+        };
+        let config = match folder_in(rt, "XDG_CONFIG_HOME")? {
+            Some(config) => config,
+            None => format!(in rt.alloc(); "{home}/.config")?,
+        };
+        Ok(Some(SettingFolders { home, config }))
+    }
+}
+
+/// The folder that a variable of the environment names, if it begins with `/`.
+fn folder_in(rt: &HostRuntime, name: &str) -> Result<Option<String>, AllocError> {
+    match env::var(rt, name) {
+        Ok(folder) if is_absolute(folder.as_str()) => Ok(Some(folder)),
+        Err(VarError::OutOfMemory) => Err(AllocError),
+        _ => Ok(None),
+    }
+}
+
+/// Whether standard output is a pipe.
+pub(crate) fn is_output_piped(rt: &HostRuntime) -> bool {
+    match fs::metadata(rt, OUTPUT) {
+        Ok(metadata) => metadata.file_type().is_fifo(),
+        Err(_) => false,
+    }
+}
+
+/// The buffer before standard output.
+pub(crate) fn buffered_output(
+    rt: &HostRuntime,
+) -> Result<BufferedSink<StdSink<Stdout>>, AllocError> {
+    BufferedSink::new(rt.alloc(), OUTPUT_BYTES, StdSink::new(rt.stdout()))
 }
 
 /// The disk, as the tree of the tool.

@@ -24,24 +24,28 @@ mod args;
 mod call;
 mod disk;
 mod execution;
+mod first_output;
 mod given;
 mod laws;
 mod outcome;
+mod project;
 mod running;
 mod streams;
 
 use args::{program_path, read_args};
-use call::Call;
+use call::{Call, absolute_folder, project_args};
 use cs_args::Tool;
-use cs_tree::{Sink, StdSink};
-use disk::{DiskIndexFile, disk_world};
+use cs_tree::{IoFault, Sink, StdSink, write_all};
+use cs_fresh::{FreshFault, SinkOutput};
+use disk::{DiskIndexFile, SettingFolders, buffered_output, disk_world, is_output_piped, project_tree};
 use execution::{execute, execute_cgrep};
 use given::Given;
 use outcome::{Outcome, ProgramFault};
+use project::{ProjectCall, UserFolders, run_project};
 use running::FoundFile;
 use std::alloc::AllocError;
 use std::env;
-use std::io::ErrorKind;
+use std::io::{ErrorKind, IsTerminal};
 use std::process::ExitCode;
 use streams::hold_streams;
 
@@ -68,6 +72,9 @@ fn start(rt: &HostRuntime) -> Result<u8, AllocError> {
         has_non_text,
         folder: current_folder(rt)?,
     };
+    if let Some(words) = project_args(&given) {
+        return search_on_disk(rt, &given, words);
+    }
     match Call::read(rt.alloc(), &given) {
         Ok(call) => execute_on_disk(rt, &call),
         Err(fault) => Ok(report(rt, &Outcome::Refused(fault))),
@@ -103,6 +110,52 @@ fn execute_on_disk(rt: &HostRuntime, call: &Call<'_>) -> Result<u8, AllocError>
     };
     let outcome = execute(call, &mut disk.folder, &mut file, &mut world);
     Ok(end(rt, &mut world.out, &outcome))
+}
+
+/// Does what the arguments of `cs` ask for, over the disk and the standard streams, and returns the
+/// exit status.
+#[inline(never)]
+fn search_on_disk(rt: &HostRuntime, given: &Given, words: &[String]) -> Result<u8, AllocError> {
+    let mut err = StdSink::new(rt.stderr());
+    if given.has_non_text {
+        let line = format!(in rt.alloc(); "cs: word {} is not text\n", words.len() + 1)?;
+        let _ = write_all(&mut err, line.as_bytes());
+        return Ok(2);
+    }
+    let Some(folder) = absolute_folder(given) else {
+        let _ = write_all(&mut err, b"cs: no current folder\n");
+        return Ok(2);
+    };
+    let settings = SettingFolders::of_environment(rt)?;
+    let terminal = rt.stdout().is_terminal();
+    let call = ProjectCall {
+        alloc: rt.alloc(),
+        words,
+        folder,
+        user: match &settings {
+            Some(folders) => Some(UserFolders {
+                home: folders.home.as_str(),
+                config: folders.config.as_str(),
+            }),
+            None => None,
+        },
+        terminal,
+    };
+    let mut tree = project_tree(rt)?;
+    let mut out = SinkOutput::new(buffered_output(rt)?, terminal);
+    let answer = run_project(&call, &mut tree, &mut out, &mut err);
+    let flushed = out.flush();
+    if out.fault() == Some(IoFault::Failed) || flushed.is_err() {
+        if !is_output_piped(rt) {
+            let _ = write_all(&mut err, b"cs: output failed\n");
+        }
+        return Ok(2);
+    }
+    match answer {
+        Ok(status) => Ok(status),
+        Err(FreshFault::Write) => Ok(2),
+        Err(FreshFault::Memory) => Err(AllocError),
+    }
 }
 
 /// Ends a run: prints what is left in the buffer of standard output, and the line of an error.

@@ -1,0 +1,81 @@
+-- What `cs` does: what its arguments ask for, and what is printed for it. docs/PROMISES.md, "Searching a project".
+use Rattle.std.specs.Prelude.{ℕ, ◌≡◌, ◌≢◌, Bool, true, false, if◌then◌else◌, List, [], ◌∷◌, map, slice_index_or, string_bytes, Option, Some, None, IsSomeAnd}
+use Rattle.cs_match.specs.SameLines.{MatchSameLines, MatchSameSpans}
+use Rattle.cs_tree.specs.PathParts.{texts}
+use Rattle.cs_listing.specs.Choices.{Settings, plain_settings}
+use Rattle.cs_listing.specs.Listing.{TreeItems}
+use Rattle.cs_listing.specs.PathNames.{names_along}
+use Rattle.cs_listing.specs.Rules.{Rule}
+use Rattle.cs_listing.specs.UserRules.{user_rules}
+use Rattle.cs_project.specs.Settings.{shown_in}
+use Rattle.cs_project.specs.declared.form.Mode.TheVariants.{Names}
+use Rattle.cs_project.specs.declared.settings.Switches.{Switches}
+use Rattle.cs_project.specs.declared.settings.Task.{Task}
+use Rattle.cs_project.specs.declared.settings.Task.TheVariants as task
+use Rattle.cs_command.specs.Requests.{IsRequest}
+use Rattle.cs_command.specs.declared.request.Request.{Request}
+use Rattle.cs_fresh.specs.Projects.{SearchesProject, ListsProject}
+use Rattle.cs_fresh.specs.Scopes.{are_several}
+use Rattle.cs_fresh.specs.declared.file_search.FileSearch.{FileSearch}
+use Rattle.cs_fresh.specs.declared.scope.Scope.{Scope}
+use Rattle.codesearch.specs.declared.project.ProjectCall.{ProjectCall}
+use Rattle.codesearch.specs.declared.project.UserFolders.{UserFolders}
+
+-- the rules of the user for all repositories
+abbrev pub rules_of_user : TreeItems → Option UserFolders → List Rule
+rules_of_user items None = []
+rules_of_user items (Some user) = user_rules items user.home.now user.config.now
+
+-- The choices without options: the rules of the user, and globs relative to the current folder.
+abbrev pub HasBase : TreeItems → ProjectCall → Settings → Type 0
+HasBase items call settings = settings ≡ plain_settings (rules_of_user items call.user) (names_along call.folder.now)
+
+-- the words with these indices
+abbrev pub words_at : List (List ℕ) → List ℕ → List (List ℕ)
+words_at words indices = map (λ index. slice_index_or words index []) indices
+
+-- -q asks only whether there is a match
+abbrev pub searched : Switches → Switches
+searched switches = if switches.silent then record switches { mode = Names } else switches
+
+-- Where a request looks: the files that its words name, with its choices, or those below the current folder.
+abbrev pub IsScopeOf : ProjectCall → Request → Scope → Type 0
+IsScopeOf call request scope = (scope.folder.now ≡ call.folder.now) × (scope.choices.now ≡ request.choices)
+    × (texts scope.words.now ≡ words_at (map string_bytes call.words.now) request.paths.items)
+
+-- A search for the pattern of a request, with its options; no line is marked yet.
+pub record IsSearchFor (items : TreeItems) (call : ProjectCall) (request : Request) (scope : Scope) (search : FileSearch) : Type 0 where
+  pub pattern : IsSomeAnd request.pattern (λ t. MatchSameLines search.search.matcher.tree t × MatchSameSpans search.search.finder.tree t)
+  pub whole : search.search.whole ≡ request.switches.pattern.whole
+  pub options : search.options ≡ shown_in (searched request.switches) request.limits request.colour (record {
+    terminal = call.terminal;
+    several = are_several items call.folder.now (texts scope.words.now);
+  })
+  pub binary : search.binary ≡ request.switches.files.binary
+  pub marked : search.marked ≡ false
+
+module _ (items : TreeItems) (call : ProjectCall) (request : Request) where
+  -- the search that is asked for
+  abbrev pub SearchesFor : List ℕ → List ℕ → ℕ → Type 0
+  SearchesFor given later status = status ≢ 2 → (scope : Scope) × (search : FileSearch) × IsScopeOf call request scope
+      × IsSearchFor items call request scope search × SearchesProject items scope search given later status
+
+  -- the names that are asked for
+  abbrev pub ListsFor : List ℕ → List ℕ → ℕ → Type 0
+  ListsFor given later status = (scope : Scope) × IsScopeOf call request scope
+      × ListsProject items scope ((if request.switches.form.nul then 0 else 10) ∷ []) given later status
+
+  -- -q prints nothing, and ends with status 0 where something would be printed
+  abbrev pub AnswersTask : Task → Bool → List ℕ → List ℕ → ℕ → Type 0
+  AnswersTask task.Search false given later status = SearchesFor given later status
+  AnswersTask task.Search true given later status = (later ≡ given) × (status ≢ 0 → SearchesFor [] [] status)
+  AnswersTask task.Files silent given later status = ListsFor given later status
+  AnswersTask _ silent given later status = status ≡ 0
+
+  abbrev pub AnswersRequest : List ℕ → List ℕ → ℕ → Type 0
+  AnswersRequest given later status = AnswersTask request.switches.task request.switches.silent given later status
+
+-- Unless the status is 2, the arguments ask for something, and this was done.
+abbrev pub DoesProject : TreeItems → ProjectCall → List ℕ → List ℕ → ℕ → Type 0
+DoesProject items call given later status = status ≢ 2 → (base : Settings) × (request : Request) × HasBase items call base
+    × IsRequest (map string_bytes call.words.now) base request × AnswersRequest items call request given later status

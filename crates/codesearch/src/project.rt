@@ -1,0 +1,248 @@
+// The tool `cs`: a search of a project as it is now.
+ghost use Rattle.std.specs.Prelude.{◌≡◌, ◌≢◌, [], map, string_bytes, IfOk};
+ghost use Rattle.cs_tree.specs.Cover.{is_absolute};
+ghost use Rattle.cs_tree.specs.PathParts.{texts};
+ghost use Rattle.cs_listing.specs.FolderReads.{InTree};
+ghost use Rattle.cs_listing.specs.Models.{chosen_in};
+ghost use Rattle.codesearch.specs.Project.{AnswersRequest, DoesProject, HasBase, ListsFor, SearchesFor, searched, words_at};
+
+use crate::first_output::FirstOutput;
+use cs_command::{HELP, Request, RequestFault, fault_line, read_request};
+use cs_fresh::{FileSearch, FreshFault, Scope, list_project, print_unread, search_project};
+use cs_listing::{Choices, Rules, TYPES, path_names, user_rules};
+use cs_match::Program;
+use cs_output::Output;
+use cs_project::{LineSearch, Mode, Surroundings, Switches, Task};
+use cs_tree::{Look, Sink, write_all};
+use std::alloc::{AllocError, Global};
+
+/// What `--version` prints.
+const VERSION: &[u8] = b"cs 0.9.0\n";
+
+/// Where the settings of a user are: the home folder, and the folder of settings.
+#[derive(Clone, Copy, Drop)]
+pub(crate) struct UserFolders<'a> {
+    pub(crate) home: &'a str,
+    pub(crate) config: &'a str,
+}
+
+/// A call of `cs`, and what it finds around it.
+#[derive(Clone, Copy, Drop)]
+pub(crate) struct ProjectCall<'a> {
+    pub(crate) alloc: Global,
+    /// The arguments after the name of the tool.
+    pub(crate) words: &'a [String],
+    /// The current folder.
+    pub(crate) folder: &'a str,
+    pub(crate) user: Option<UserFolders<'a>>,
+    /// Standard output is a terminal.
+    pub(crate) terminal: bool,
+    ghost absolute: { is_absolute folder.now ≡ true },
+}
+
+/// The choices without options: the rules of the user, and globs relative to the current folder.
+#[derive(Drop)]
+struct Base {
+    choices: Choices,
+    /// The line of an error was printed.
+    wrong: bool,
+}
+
+/// Does what the arguments of `cs` ask for, and returns the exit status: 2 after an error, else 0
+/// if a line is marked, else 1.
+pub(crate) fn run_project<T: Look, O: Output, E: Sink>(
+    call: &ProjectCall<'_>,
+    tree: &mut T,
+    out: &mut O,
+    err: &mut E,
+) -> Result<u8, FreshFault>
+    ensures does { IfOk result (λ status. InTree (T.snapshot tree.old)
+        (λ items. DoesProject items call.now (O.given out.old) (O.given out.new) status)) }
+    ensures keeps { T.snapshot tree.new ≡ T.snapshot tree.old }
+{
+    let base = base_of(call, tree, err)?;
+    match read_request(call.alloc, base.choices, call.words) {
+        Ok(request) => {
+            let status = answer(call, &request, tree, out, err)?;
+            Ok(if base.wrong { 2 } else { status })
+        }
+        Err(RequestFault::Memory) => Err(FreshFault::Memory),
+        Err(fault) => refuse(call, fault, err),
+    }
+}
+
+fn base_of<T: Look, E: Sink>(
+    call: &ProjectCall<'_>,
+    tree: &mut T,
+    err: &mut E,
+) -> Result<Base, FreshFault>
+    ensures base { IfOk result (λ base. InTree (T.snapshot tree.old)
+        (λ items. HasBase items call.now (chosen_in base.choices))) }
+    ensures keeps { T.snapshot tree.new ≡ T.snapshot tree.old }
+{
+    let folder = path_names(call.alloc, call.folder)?;
+    let Some(user) = &call.user else {
+        return Ok(Base {
+            choices: Choices::new(call.alloc, Rules::none(call.alloc), folder),
+            wrong: false,
+        });
+    };
+    let read = user_rules(call.alloc, tree, user.home, user.config)?;
+    let wrong = print_unread(call.alloc, &read.unread, err)?;
+    Ok(Base {
+        choices: Choices::new(call.alloc, read.rules, folder),
+        wrong,
+    })
+}
+
+/// Prints the line of arguments that ask for nothing.
+fn refuse<E: Sink>(
+    call: &ProjectCall<'_>,
+    fault: RequestFault,
+    err: &mut E,
+) -> Result<u8, FreshFault>
+    ensures { IfOk result (λ status. status ≡ 2) }
+{
+    let line = fault_line(call.alloc, call.words, fault)?;
+    write_all(err, line.as_bytes())?;
+    Ok(2)
+}
+
+/// Does what is asked for.
+fn answer<T: Look, O: Output, E: Sink>(
+    call: &ProjectCall<'_>,
+    request: &Request,
+    tree: &mut T,
+    out: &mut O,
+    err: &mut E,
+) -> Result<u8, FreshFault>
+    ensures answers { IfOk result (λ status. InTree (T.snapshot tree.old)
+        (λ items. AnswersRequest items call.now request.now (O.given out.old) (O.given out.new) status)) }
+    ensures keeps { T.snapshot tree.new ≡ T.snapshot tree.old }
+{
+    match request.switches.task {
+        Task::Help => Ok(print(HELP.as_bytes(), out)?),
+        Task::Version => Ok(print(VERSION, out)?),
+        Task::Types => Ok(print_types(out)?),
+        Task::Files => list(call, request, tree, out, err),
+        Task::Search if request.switches.silent => search_silently(call, request, tree, err),
+        Task::Search => search(call, request, tree, out, err),
+    }
+}
+
+fn print<O: Output>(text: &[u8], out: &mut O) -> Result<u8, AllocError> {
+    out.append(text)?;
+    Ok(0)
+}
+
+/// Prints the types of files, with their globs.
+fn print_types<O: Output>(out: &mut O) -> Result<u8, AllocError> {
+    'types: for entry in &TYPES {
+        out.append(entry.0.as_bytes())?;
+        out.append(b": ")?;
+        out.append(entry.1.as_bytes())?;
+        out.append(b"\n")?;
+    }
+    Ok(0)
+}
+
+/// The words with these indices.
+fn words_at<'a>(
+    alloc: Global,
+    words: &'a [String],
+    indices: &[usize],
+) -> Result<Vec<&'a str>, AllocError>
+    ensures { IfOk result (λ chosen. texts chosen.items
+        ≡ words_at (map string_bytes words.now) indices.now) }
+{
+    let mut chosen = Vec::new(alloc);
+    'indices: for index in indices {
+        let word = match words.get(*index) {
+            Some(word) => word.as_str(),
+            None => "",
+        };
+        chosen.push(word)?;
+    }
+    Ok(chosen)
+}
+
+/// Prints the names of the files.
+fn list<T: Look, O: Output, E: Sink>(
+    call: &ProjectCall<'_>,
+    request: &Request,
+    tree: &mut T,
+    out: &mut O,
+    err: &mut E,
+) -> Result<u8, FreshFault>
+    ensures lists { IfOk result (λ status. InTree (T.snapshot tree.old)
+        (λ items. ListsFor items call.now request.now (O.given out.old) (O.given out.new) status)) }
+    ensures keeps { T.snapshot tree.new ≡ T.snapshot tree.old }
+{
+    let words = words_at(call.alloc, call.words, &request.paths)?;
+    let scope = Scope::new(call.alloc, call.folder, &request.choices, &words);
+    let end = if request.switches.form.nul {
+        b"\0"
+    } else {
+        b"\n"
+    };
+    list_project(&scope, end, tree, out, err)
+}
+
+/// Searches the files.
+fn search<T: Look, O: Output, E: Sink>(
+    call: &ProjectCall<'_>,
+    request: &Request,
+    tree: &mut T,
+    out: &mut O,
+    err: &mut E,
+) -> Result<u8, FreshFault>
+    ensures searches { IfOk result (λ status. InTree (T.snapshot tree.old)
+        (λ items. SearchesFor items call.now request.now (O.given out.old) (O.given out.new) status)) }
+    ensures keeps { T.snapshot tree.new ≡ T.snapshot tree.old }
+{
+    let alloc = call.alloc;
+    let Some(pattern) = &request.pattern else {
+        return refuse(call, RequestFault::NoPattern, err);
+    };
+    let words = words_at(alloc, call.words, &request.paths)?;
+    let scope = Scope::new(alloc, call.folder, &request.choices, &words);
+    let place = Surroundings {
+        terminal: call.terminal,
+        several: scope.is_of_several(tree)?,
+    };
+    let options =
+        searched(request.switches).shown_in(&request.limits, request.colour, place);
+    let program = Program::compile(alloc, pattern)?;
+    let lines = LineSearch::new(alloc, &program, request.switches.pattern.whole)?;
+    let files = FileSearch::new(alloc, options, request.switches.files.binary, lines)?;
+    search_project(&scope, files, tree, out, err)
+}
+
+/// What the switches ask of a search. One that prints nothing looks for the first match.
+fn searched(switches: Switches) -> Switches
+    ensures { result ≡ searched switches }
+{
+    let mut searched = switches;
+    if switches.silent {
+        searched.mode = Mode::Names;
+    }
+    searched
+}
+
+/// Searches the files, prints nothing, and ends where something would be printed, with status 0.
+fn search_silently<T: Look, E: Sink>(
+    call: &ProjectCall<'_>,
+    request: &Request,
+    tree: &mut T,
+    err: &mut E,
+) -> Result<u8, FreshFault>
+    ensures silent { IfOk result (λ status. InTree (T.snapshot tree.old)
+        (λ items. status ≢ 0 → SearchesFor items call.now request.now [] [] status)) }
+    ensures keeps { T.snapshot tree.new ≡ T.snapshot tree.old }
+{
+    let mut first = FirstOutput::new();
+    match search(call, request, tree, &mut first, err) {
+        Err(_) if first.is_asked() => Ok(0),
+        answer => answer,
+    }
+}

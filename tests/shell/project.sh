@@ -137,7 +137,7 @@ printf 'ab\n' > sub/b
 printf 'ab\n' > "$(printf 'sub/\377')"
 prints 2 'a:ab\nsub/b:ab\n' 'cs: sub: the name of an entry is not UTF-8\n' "cs ab"
 rm sub/*[!b]
-# a rule file that is no text, one that is long, and 10,000 rules
+# a rule file that is not UTF-8, one that is long, and 10,000 rules
 printf 'x\0y\n\377\nsub\n' > .gitignore
 prints 0 '.gitignore\na\n' '' "cs --files"
 head -c 1048577 /dev/zero | tr '\0' a > .gitignore

@@ -3,7 +3,7 @@
 imports, and those that the contracts of traits reach whose ghosts the clauses name (`T.snapshot` is a ghost of `Tree`). Files are
 counted by lines, and by lines of definitions (without blanks, comments and imports).
 usage: scripts/trusted.py [-q] [--check]
--q omits the files, which are otherwise listed with the longest first; --check fails if a tool is above its limit."""
+-q omits the files, which are otherwise listed from the clauses down; --check fails if a tool is above its limit."""
 import re
 import sys
 from pathlib import Path
@@ -82,15 +82,14 @@ def cited(name, path, wanted):
 
 
 def reached(files):
-    """The files, and everything that they import."""
-    seen = set()
-    pending = list(files)
-    while pending:
-        file = pending.pop()
-        if file not in seen:
-            seen.add(file)
-            pending.extend(imports(file.read_text()))
-    return seen
+    """The files, and everything that they import, nearest first."""
+    seen = dict.fromkeys(files)
+    pending = list(seen)
+    for file in pending:
+        new = [it for it in imports(file.read_text()) if it not in seen]
+        seen.update(dict.fromkeys(new))
+        pending.extend(dict.fromkeys(new))
+    return list(seen)
 
 
 def definitions(text):
@@ -110,7 +109,7 @@ def main():
         print(f"{name}: {len(counts)} files, {sum(lines for _, lines, _ in counts)} lines, {total} of definitions{limit}")
         above += bool(most and total > most)
         if "-q" not in sys.argv:
-            for count, lines, file in sorted(counts, key=lambda row: (-row[0], row[2])):
+            for count, lines, file in counts:
                 print(f"  {lines:5} {count:5}  {file}")
     return "--check" in sys.argv and above != 0
 

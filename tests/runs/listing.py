@@ -97,6 +97,9 @@ def main():
     program = os.path.realpath(sys.argv[1])
     projects = int(sys.argv[2]) if len(sys.argv) > 2 else 100
     seed = int(sys.argv[3]) if len(sys.argv) > 3 else 1
+    if not shutil.which("git"):
+        print("skipped: git is not installed")
+        return False
     top, failed = tempfile.mkdtemp(), 0
     for number in range(projects):
         folder = f"{top}/{number}"

@@ -24,7 +24,7 @@ def lines(dice):
 
 
 def fill(dice, folder):
-    """makes the files of a project; returns whether all are text"""
+    """makes the files of a project; returns whether no file has a byte that is not UTF-8"""
     all_text = True
     os.makedirs(f"{folder}/.git")
     for name in dice.sample(["f", "g.c", "sub/h", "sub/deep/i.py", "t/j", ".k", "a b", "x", "é"], dice.randint(1, 7)):
@@ -38,7 +38,7 @@ def fill(dice, folder):
 
 
 def options(dice, all_text):
-    """options of a search, and its pattern; rg finds other words beside a byte that is no text"""
+    """options of a search, and its pattern; rg finds other words beside a byte that is not UTF-8"""
     words = []
     mode = dice.choice(["", "", "", "", "-c", "-l", "--files-without-match"])
     if mode:

@@ -137,7 +137,7 @@ printf 'ab\n' > sub/b
 printf 'ab\n' > "$(printf 'sub/\377')"
 prints 2 'a:ab\nsub/b:ab\n' 'cs: sub: the name of an entry is not UTF-8\n' "cs ab"
 rm sub/*[!b]
-# a rule file that is no text, one that is long, and 10,000 rules
+# a rule file that is not UTF-8, one that is long, and 10,000 rules
 printf 'x\0y\n\377\nsub\n' > .gitignore
 prints 0 '.gitignore\na\n' '' "cs --files"
 head -c 1048577 /dev/zero | tr '\0' a > .gitignore
@@ -204,15 +204,21 @@ rm many
 
 # ---- errors -------------------------------------------------------------------------------------------------------------
 prints 2 '' 'cs: no pattern (cs --help)\n' "cs"
-prints 2 '' 'cs: unknown option: --nonsense (cs --help)\n' "cs --nonsense ab"
+prints 2 '' 'cs: unknown option (cs --help): --nonsense\n' "cs --nonsense ab"
 prints 2 '' 'cs: an option of rg that cs does not have: --json\n' "cs --json ab"
-prints 2 '' 'cs: an option without a value: --count=3\n' "cs --count=3 ab"
+prints 2 '' 'cs: an option that takes no value: --count=3\n' "cs --count=3 ab"
 prints 2 '' 'cs: the last option needs a value\n' "cs ab -m"
-prints 2 '' 'cs: not a number: x\n' "cs -m x ab"
-prints 2 '' 'cs: not always, never or auto: red\n' "cs --color red ab"
-prints 2 '' 'cs: no such type (cs --type-list): zz\n' "cs -t zz ab"
-prints 2 '' 'cs: bad pattern at byte 1: a parenthesis closes no group\n' "cs 'a)'"
-prints 2 '' 'cs: bad pattern at byte 1: a parenthesis closes no group\n' "cs -e 'a)' -e '(b'"
+prints 2 '' 'cs: no decimal number: x\n' "cs -m x ab"
+prints 2 '' 'cs: none of always, never and auto: red\n' "cs --color red ab"
+prints 2 '' 'cs: no type of files (cs --type-list): zz\n' "cs -t zz ab"
+prints 2 '' 'cs: bad pattern: a parenthesis closes no group\n  a)\n   ^\n' "cs 'a)'"
+prints 2 '' 'cs: bad pattern: a parenthesis closes no group\n  é)\n   ^\n' "cs -e ab -e 'é)' -e '(b'"
+prints 2 '' 'cs: --update: cs keeps no index yet\n' "cs --update ab"
+prints 2 '' 'cs: word 2 is not text\n' "cs ab \"\$(printf '\\377')\""
+prints 0 '' '' "cs -q ab"
+prints 1 '' '' "cs -q zzz"
+prints 0 '' '' "cs -q -c -e ab -e zzz f"
+prints 0 'cs 0.9.0\n' '' "cs --version"
 holds "cs --help | grep -q '^usage: cs'"
 holds "cs --type-list | grep -q '^c: '"
 holds "'$program' cs ab sub/g"

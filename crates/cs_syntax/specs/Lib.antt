@@ -27,6 +27,7 @@ pub mod ParseErrors
 pub mod Levels
 pub mod Quoting
 pub mod BarredPatterns
+pub mod Joining
 -- Definitions that only private contracts cite.
 pub mod Bits
 pub mod SetWords

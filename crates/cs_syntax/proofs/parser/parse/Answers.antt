@@ -1,4 +1,4 @@
-use Rattle.std.proofs.Common.{◌≡◌, inl, inr, ℕ, List, Bool, refl, rules}
+use Rattle.std.proofs.Common.{inl, inr, ℕ, List, Bool, rules}
 use Rattle.cs_syntax.specs.Node.{tree_of}
 use Rattle.cs_syntax.specs.ParserState.{IsErrorOf}
 use Rattle.cs_syntax.specs.Parsing.{parse_result}

@@ -1,6 +1,5 @@
-use Rattle.std.proofs.Common.{◌≡◌, sym, ap, ◌∙◌}
-use Rattle.std.specs.Prelude.{Result}
-use Rattle.cs_syntax.specs.Matching.{Tree, Trees, alt}
+use Rattle.std.proofs.Common.{ap, ◌∙◌}
+use Rattle.cs_syntax.specs.Matching.{Trees, alt}
 use Rattle.cs_syntax.specs.TreeList.{append}
 use Rattle.cs_syntax.specs.NodeList.{trees_of}
 use Rattle.cs_syntax.specs.Joining.{branches_of, either, pattern_of}

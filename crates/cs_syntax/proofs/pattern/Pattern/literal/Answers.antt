@@ -1,9 +1,8 @@
-use Rattle.std.proofs.Common.{◌≡◌, ℕ, List, take, length, sym, ap, ◌∙◌, rules}
-use Rattle.std.specs.Str.{chars}
+use Rattle.std.proofs.Common.{sym, ap, ◌∙◌}
 use Rattle.std.proofs.lemmas.List.{map-id}
 use Rattle.std.proofs.lemmas.Iterator.{YieldsList-from_chars}
-use Rattle.std.proofs.lemmas.Iterator.Consumers.{YieldsList-turn, YieldsList-end}
-use Rattle.cs_syntax.specs.Matching.{Tree, Trees}
+use Rattle.std.proofs.lemmas.Iterator.Consumers.{YieldsList-end}
+use Rattle.cs_syntax.specs.Matching.{Trees}
 use Rattle.cs_syntax.specs.NodeList.{trees_of}
 use Rattle.cs_syntax.specs.PartialGroups.{with_last}
 use Rattle.cs_syntax.specs.Tokens.{sequence, char_tree}

@@ -1,7 +1,7 @@
 -- Which files the options choose, one choice after another: the kinds of files, the depth, and then globs and types in
 -- their order.
-use Rattle.std.specs.Prelude.{ℕ, ◌≡◌, ◌++◌, ◌||◌, Bool, true, false, if◌then◌else◌, List, [], ◌∷◌, Option, Some, None}
-use Rattle.std.specs.List.{filter_map}
+use Rattle.std.specs.Prelude.{ℕ, ◌≡◌, ◌++◌, ◌&&◌, nat_eq, Bool, true, false, if◌then◌else◌, List, [], ◌∷◌, Option, Some, None}
+use Rattle.std.specs.List.{filter_map, list_any}
 use Rattle.std.specs.Option.{option_to_list}
 use Rattle.cs_listing.specs.Choices.{Settings, AddsType}
 use Rattle.cs_listing.specs.RuleFiles.{rule_in}
@@ -12,6 +12,9 @@ use Rattle.cs_project.specs.declared.words.Item.{Item}
 use Rattle.cs_project.specs.declared.words.Item.TheVariants as item
 use Rattle.cs_command.specs.Options.{part_of}
 use Rattle.cs_command.specs.Values.{text_of}
+use Rattle.cs_command.specs.declared.fault.RequestFault.{RequestFault}
+use Rattle.cs_command.specs.declared.fault.RequestFault.TheVariants.{NoType}
+use Rattle.cs_command.specs.declared.options.WordPart.{WordPart}
 
 pub data Choice : Type 0 where
   -- hidden files too
@@ -35,11 +38,19 @@ abbrev pub choice_in : List (List ℕ) → Item → Option Choice
 choice_in words (item.Value valued word from) = choice_by valued (text_of words (part_of word from))
 choice_in words _ = None
 
+abbrev pub hidden_if : Bool → List Choice
+hidden_if is_wanted = if is_wanted then hidden ∷ [] else []
+
+abbrev pub ignored_if : Bool → List Choice
+ignored_if is_wanted = if is_wanted then ignored ∷ [] else []
+
+abbrev pub depth_of : Option ℕ → List Choice
+depth_of (Some names) = depth names ∷ []
+depth_of None = []
+
 -- the kinds of files, and the depth
 abbrev pub choices_by : FileChoice → Option ℕ → List Choice
-choices_by files most =
-    (if files.hidden then hidden ∷ [] else []) ++ (if files.ignored then ignored ∷ [] else []) ++
-    (elim most [ Some names ↦ depth names ∷ [] | None ↦ [] ])
+choices_by files most = hidden_if files.hidden ++ (ignored_if files.ignored ++ depth_of most)
 
 -- all choices
 abbrev pub choices_of : List (List ℕ) → FileChoice → Option ℕ → List Item → List Choice
@@ -58,8 +69,12 @@ abbrev pub ChoosesAll : List Choice → Settings → Settings → Type 0
 ChoosesAll [] old new = new ≡ old
 ChoosesAll (choice ∷ choices) old new = (between : Settings) × Chooses choice old between × ChoosesAll choices between new
 
--- the value of -t or of -T
-abbrev pub type_part : Item → Option WordPart
-type_part (item.Value valued.FileType word from) = Some (part_of word from)
-type_part (item.Value valued.NotType word from) = Some (part_of word from)
-type_part _ = None
+-- whether an item is the value of -t or of -T at this part of a word
+abbrev pub is_type_at : WordPart → Item → Bool
+is_type_at part (item.Value valued.FileType word from) = nat_eq word part.word && nat_eq from part.from
+is_type_at part (item.Value valued.NotType word from) = nat_eq word part.word && nat_eq from part.from
+is_type_at part _ = false
+
+-- the error of a type that one of the items names
+abbrev pub IsTypeIn : List Item → RequestFault → Type 0
+IsTypeIn items fault = (part : WordPart) × (fault ≡ NoType part) × (list_any (is_type_at part) items ≡ true)

@@ -5,3 +5,4 @@ pub mod Choices
 pub mod Patterns
 pub mod Texts
 pub mod Requests
+pub mod Lines

@@ -1,5 +1,5 @@
 -- Which words are patterns, and which are paths.
-use Rattle.std.specs.Prelude.{ℕ, Bool, true, false, ◌&&◌, if◌then◌else◌, List, [], ◌∷◌, Option, Some, None}
+use Rattle.std.specs.Prelude.{ℕ, Bool, true, false, if◌then◌else◌, List, [], ◌∷◌, Option, Some, None}
 use Rattle.std.specs.List.{filter_map}
 use Rattle.cs_project.specs.declared.named.Valued.TheVariants as valued
 use Rattle.cs_project.specs.declared.settings.Task.{Task}

@@ -1,5 +1,5 @@
 -- The values of options. Words are lists of bytes.
-use Rattle.std.specs.Prelude.{ℕ, ◌^◌, Bool, true, false, ◌&&◌, not, if◌then◌else◌, nat_eq, nat_lt, nat_le, List, [], ◌∷◌, length, drop, slice_index_or, Option, Some, None, Result, Ok, Err, codes, bytes_eq}
+use Rattle.std.specs.Prelude.{ℕ, ◌^◌, Bool, true, false, ◌&&◌, if◌then◌else◌, nat_lt, nat_le, List, [], ◌∷◌, length, drop, slice_index_or, Option, Some, None, Result, Ok, Err, codes, bytes_eq}
 use Rattle.std.specs.List.{list_all}
 use Rattle.std.specs.Map.{lookup}
 use Rattle.std.specs.Str.{is_utf8}
@@ -11,7 +11,7 @@ use Rattle.cs_command.specs.declared.options.WordPart.{WordPart}
 use Rattle.cs_command.specs.declared.options.OptionValues.{OptionValues}
 
 -- what follows a result, unless it is an error
-abbrev pub and_then : {A B : Type 0} → Result A RequestFault → (A → Result B RequestFault) → Result B RequestFault
+unfoldable pub and_then : {A B : Type 0} → Result A RequestFault → (A → Result B RequestFault) → Result B RequestFault
 and_then (Ok value) next = next value
 and_then (Err fault) next = Err fault
 

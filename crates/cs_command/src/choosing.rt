@@ -1,9 +1,13 @@
 // Which files the options choose.
-ghost use Rattle.std.specs.Prelude.{◌≡◌, ◌≢◌, map, string_bytes, Ok, Err, IfOk, OnOk, IfErr};
+ghost use Rattle.std.specs.Prelude.{◌≡◌, ◌≢◌, map, string_bytes, Ok, Err, [], ◌∷◌, true, OnOk, IfErr};
 ghost use Rattle.std.specs.List.{filter_map};
 ghost use Rattle.cs_listing.specs.Models.{chosen_in};
-ghost use Rattle.cs_command.specs.Choices.{ChoosesItem, ChoosesAll, choices_by, choice_in, IsTypeIn};
-ghost use Rattle.cs_command.specs.declared.fault.RequestFault.TheVariants.{Memory};
+ghost use Rattle.std.specs.Option.{option_to_list};
+ghost use Rattle.cs_listing.specs.Choices.{AddsType};
+ghost use Rattle.cs_command.specs.Choices.{ChoosesAll, hidden_if, ignored_if, depth_of, choices_by, choice_by, choice_in, IsTypeIn};
+ghost use Rattle.cs_command.specs.Values.{text_of};
+ghost use Rattle.cs_command.specs.declared.fault.RequestFault.TheVariants.{Memory, NoType};
+ghost use Rattle.cs_project.specs.declared.words.Item.TheVariants.{Value};
 
 use crate::fault::RequestFault;
 use crate::options::WordPart;
@@ -15,14 +19,35 @@ use cs_project::{FileChoice, Item, Valued};
 pub(crate) fn choose_kinds(choices: &mut Choices, files: FileChoice, depth: Option<usize>)
     ensures { ChoosesAll (choices_by files depth) (chosen_in choices.old) (chosen_in choices.new) }
 {
-    if files.hidden {
+    choose_hidden(choices, files.hidden);
+    choose_ignored(choices, files.ignored);
+    choose_depth(choices, depth);
+}
+
+/// Hidden files too, if they are wanted.
+fn choose_hidden(choices: &mut Choices, is_wanted: bool)
+    ensures { ChoosesAll (hidden_if is_wanted) (chosen_in choices.old) (chosen_in choices.new) }
+{
+    if is_wanted {
         choices.take_hidden();
     }
-    if files.ignored {
+}
+
+/// Ignored files too, if they are wanted.
+fn choose_ignored(choices: &mut Choices, is_wanted: bool)
+    ensures { ChoosesAll (ignored_if is_wanted) (chosen_in choices.old) (chosen_in choices.new) }
+{
+    if is_wanted {
         choices.take_ignored();
     }
-    if let Some(depth) = depth {
-        choices.limit_depth(depth);
+}
+
+/// At most so many names below the folder, if that is given.
+fn choose_depth(choices: &mut Choices, most: Option<usize>)
+    ensures { ChoosesAll (depth_of most) (chosen_in choices.old) (chosen_in choices.new) }
+{
+    if let Some(names) = most {
+        choices.limit_depth(names);
     }
 }
 
@@ -38,12 +63,24 @@ pub(crate) fn choose_names(
 {
     let mut rest = items;
     'items: while let Some((item, behind)) = rest.split_first() {
-        if let Item::Value(valued, word, from) = *item {
-            choose(choices, words, valued, WordPart { word, from })?;
-        }
+        choose_by(choices, words, *item)?;
         rest = behind;
     }
     Ok(())
+}
+
+/// Chooses by an item.
+fn choose_by(choices: &mut Choices, words: &[String], item: Item) -> Result<(), RequestFault>
+    ensures chosen { OnOk result (ChoosesAll (option_to_list (choice_in (map string_bytes words.now) item))
+        (chosen_in choices.old) (chosen_in choices.new)) }
+    ensures fault { IfErr result (λ fault. fault ≢ Memory → IsTypeIn (item ∷ []) fault) }
+{
+    match item {
+        Item::Value(valued, word, from) => {
+            choose(choices, words, valued, WordPart { word, from })
+        }
+        _ => Ok(()),
+    }
 }
 
 /// Chooses by a value.

@@ -34,8 +34,9 @@ Files
   --hidden        hidden files outside of repositories too
   -u              ignored and hidden files too
 Other
-  --help, --version
+  --help, --version    these options; the version
   --              what follows is no option
 
+Long names are those of rg and grep: --ignore-case, --max-count=N, --type TYPE.
 Status: 0 if a line matches, 1 if none matches, 2 after an error.
 ";

@@ -1,7 +1,9 @@
 // What a command line asks for.
-ghost use Rattle.std.specs.Prelude.{◌≡◌, ◌≢◌, map, string_bytes, IfOk, IfErr};
+ghost use Rattle.std.specs.Prelude.{◌≡◌, ◌≢◌, map, string_bytes, Ok, Err, IfOk, IfErr};
 ghost use Rattle.cs_listing.specs.Models.{chosen_in};
-ghost use Rattle.cs_command.specs.Requests.{IsRequest, IsFault};
+ghost use Rattle.cs_command.specs.Requests.{asked_pattern, request_by, IsRequest, IsRequestBy, IsRequestFault, IsFaultBy};
+ghost use Rattle.cs_command.specs.Texts.{shown};
+ghost use Rattle.cs_command.specs.declared.fault.RequestFault.TheVariants.{Memory};
 
 use crate::choosing::{choose_kinds, choose_names};
 use crate::fault::RequestFault;
@@ -36,27 +38,36 @@ pub fn read_request(
     alloc: Global,
     choices: Choices,
     words: &[String],
-) -> Result<Request, RequestFault> {
+) -> Result<Request, RequestFault>
+    ensures request { IfOk result
+        (λ request. IsRequest (map string_bytes words.now) (chosen_in choices) request) }
+    ensures fault { IfErr result (IsRequestFault (map string_bytes words.now)) }
+{
     let items = match read_items(alloc, words) {
         Ok(items) => items,
         Err(ItemFault::Memory) => return Err(RequestFault::Memory),
         Err(fault) => return Err(RequestFault::Item(fault)),
     };
     let options = options_of(&items);
-    if let Some(switch) = options.of_index {
-        return Err(RequestFault::NoIndex(switch));
+    match options.of_index {
+        Some(switch) => Err(RequestFault::NoIndex(switch)),
+        None => request_by(alloc, choices, words, &items, &options),
     }
-    request_of(alloc, choices, words, &items, &options)
 }
 
 /// The request of items, whose options are known.
-fn request_of(
+fn request_by(
     alloc: Global,
     choices: Choices,
     words: &[String],
     items: &[Item],
     options: &Options,
-) -> Result<Request, RequestFault> {
+) -> Result<Request, RequestFault>
+    ensures request { IfOk result (λ request.
+        IsRequestBy (request_by (map string_bytes words.now) items.now options.now) (chosen_in choices) request) }
+    ensures fault { IfErr result (IsFaultBy
+        (request_by (map string_bytes words.now) items.now options.now) items.now) }
+{
     let switches = options.switches;
     let limits = limits_in(words, &options.values)?;
     let colour = colour_in(words, options.values.colour)?;
@@ -83,7 +94,12 @@ fn asked_pattern(
     switches: &Switches,
     case: LetterCase,
     texts: &Texts,
-) -> Result<Option<Pattern>, RequestFault> {
+) -> Result<Option<Pattern>, RequestFault>
+    ensures pattern { IfOk result (λ pattern. asked_pattern (map string_bytes words.now)
+        switches.now case (shown texts.now) ≡ Ok pattern) }
+    ensures fault { IfErr result (λ fault. fault ≢ Memory → asked_pattern (map string_bytes words.now)
+        switches.now case (shown texts.now) ≡ Err fault) }
+{
     if needs_pattern(switches.task) {
         let pattern = pattern_in(alloc, words, switches.pattern, case, &texts.patterns)?;
         Ok(Some(pattern))

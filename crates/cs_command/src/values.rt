@@ -36,7 +36,10 @@ pub(crate) fn text_of<'w>(words: &'w [String], part: WordPart) -> &'w str
 fn number_of(text: &str) -> Option<u64>
     ensures { result ≡ number_of text.now }
 {
-    text.parse::<u64>().ok()
+    match text.parse::<u64>() {
+        Ok(number) => Some(number),
+        Err(_) => None,
+    }
 }
 
 /// The decimal number that a value is, if there is one.

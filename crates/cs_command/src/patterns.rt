@@ -124,7 +124,7 @@ fn pattern_at(
     }
 }
 
-/// The lines that match one of two patterns, the second of which is at `part`.
+/// The lines that match one of two patterns. `part` is that of the second.
 fn either_at(
     alloc: Global,
     first: Pattern,

@@ -39,8 +39,7 @@ pub fn read_request(
     choices: Choices,
     words: &[String],
 ) -> Result<Request, RequestFault>
-    ensures request { IfOk result
-        (λ request. IsRequest (map string_bytes words.now) (chosen_in choices) request) }
+    ensures request { IfOk result (IsRequest (map string_bytes words.now) (chosen_in choices)) }
     ensures fault { IfErr result (IsRequestFault (map string_bytes words.now)) }
 {
     let items = match read_items(alloc, words) {
@@ -63,8 +62,8 @@ fn request_by(
     items: &[Item],
     options: &Options,
 ) -> Result<Request, RequestFault>
-    ensures request { IfOk result (λ request.
-        IsRequestBy (request_by (map string_bytes words.now) items.now options.now) (chosen_in choices) request) }
+    ensures request { IfOk result (IsRequestBy
+        (request_by (map string_bytes words.now) items.now options.now) (chosen_in choices)) }
     ensures fault { IfErr result (IsFaultBy
         (request_by (map string_bytes words.now) items.now options.now) items.now) }
 {

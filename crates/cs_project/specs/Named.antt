@@ -5,7 +5,7 @@ use Rattle.std.specs.Map.{lookup}
 use Rattle.std.specs.Option.{option_or}
 use Rattle.cs_project.specs.declared.named.Named.{Named}
 use Rattle.cs_project.specs.declared.named.Named.TheVariants.{Switch as A_switch, Valued, LeftOut, Unknown}
-use Rattle.cs_project.specs.declared.named.Switch.TheVariants.{Literal, Fold, Smart, Exact, Words, Lines, Invert, Count, Names, Others, Only, Silent, Text, Number, NoNumber, WithName, Bare, Nul, Column, Each, Heading, Files, TypeList, Unrestricted, Hidden, Update, NoUpdate, NoState}
+use Rattle.cs_project.specs.declared.named.Switch.TheVariants.{Literal, Fold, Smart, Exact, Words, Lines, Invert, Count, Names, Others, Only, Silent, Text, Number, NoNumber, WithName, Bare, Nul, Column, Each, Heading, Files, TypeList, Unrestricted, Hidden, Update, NoUpdate, NoState, Help, Version}
 use Rattle.cs_project.specs.declared.named.Valued.TheVariants.{Pattern, After, Before, Around, Most, Colour, Glob, NotType, Depth, FileType}
 
 -- each letter with its option
@@ -60,6 +60,10 @@ file_name name =
     (codes "max-depth", Valued Depth) ∷ (codes "update", A_switch Update) ∷
     (codes "no-update", A_switch NoUpdate) ∷ (codes "no-state", A_switch NoState) ∷ [])
 
+-- the program itself
+abbrev pub about_name : List ℕ → Option Named
+about_name name = lookup (bytes_eq name) ((codes "help", A_switch Help) ∷ (codes "version", A_switch Version) ∷ [])
+
 -- options of rg that `cs` does not have
 abbrev pub left_out : List ℕ → Option Named
 left_out name =
@@ -69,5 +73,5 @@ left_out name =
 
 abbrev pub name_option : List ℕ → Named
 name_option name =
-    unwrap_or (option_or (option_or (option_or (option_or (search_name name) (line_name name)) (form_name name))
-    (file_name name)) (left_out name)) Unknown
+    unwrap_or (option_or (option_or (option_or (option_or (option_or (search_name name) (line_name name)) (form_name name))
+    (file_name name)) (about_name name)) (left_out name)) Unknown

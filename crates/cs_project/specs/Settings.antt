@@ -1,5 +1,5 @@
 -- What the options of `cs` ask for: the switches one after another, then what they mean in their surroundings.
-use Rattle.std.specs.Prelude.{Bool, true, false, ◌||◌, ◌&&◌, not, Option, Some}
+use Rattle.std.specs.Prelude.{Bool, true, false, ◌||◌, ◌&&◌, not, Option, Some, None}
 use Rattle.std.specs.Option.{unwrap_or, option_or}
 use Rattle.cs_project.specs.declared.form.LineForm.{LineForm}
 use Rattle.cs_project.specs.declared.form.Mode.{Mode}
@@ -11,6 +11,29 @@ use Rattle.cs_project.specs.declared.settings.Limits.{Limits}
 use Rattle.cs_project.specs.declared.settings.Surroundings.{Surroundings}
 use Rattle.cs_project.specs.declared.settings.Switches.{Switches}
 use Rattle.cs_project.specs.declared.settings.Task.TheVariants as task
+
+-- without options, lines are searched and printed as they are
+abbrev pub no_switches : Switches
+no_switches = record {
+  task = task.Search;
+  mode = mode.Lines;
+  silent = false;
+  invert = false;
+  pattern = record { literal = false; whole = false; lines = false };
+  files = record { hidden = false; ignored = false; binary = false };
+  number = None;
+  named = None;
+  form = record {
+    bare = false;
+    heading = false;
+    number = false;
+    column = false;
+    only = false;
+    each = false;
+    nul = false;
+    colour = false;
+  };
+}
 
 -- -l and -L override -c
 abbrev pub counted : Mode → Mode
@@ -47,6 +70,8 @@ with_switch switches on.WithName = record switches { named = Some true }
 with_switch switches on.Bare = record switches { named = Some false }
 with_switch switches on.Files = record switches { task = task.Files }
 with_switch switches on.TypeList = record switches { task = task.Types }
+with_switch switches on.Help = record switches { task = task.Help }
+with_switch switches on.Version = record switches { task = task.Version }
 with_switch switches switch = with_form switches switch
 
 -- Names are beside lines if several files may be searched, or with --vimgrep; numbers with columns, and on a terminal.

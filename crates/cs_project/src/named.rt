@@ -1,6 +1,6 @@
 // The options of `cs`, by their letters and names.
 ghost use Rattle.std.specs.Prelude.{◌≡◌};
-ghost use Rattle.cs_project.specs.Named.{letter_option, name_option, search_name, line_name, form_name, file_name, left_out};
+ghost use Rattle.cs_project.specs.Named.{letter_option, name_option, search_name, line_name, form_name, file_name, about_name, left_out};
 
 /// An option without a value.
 #[derive(Clone, Copy, Drop)]
@@ -61,6 +61,10 @@ pub enum Switch {
     NoUpdate,
     /// `--no-state`
     NoState,
+    /// `--help`
+    Help,
+    /// `--version`
+    Version,
 }
 
 /// An option with a value.
@@ -144,6 +148,7 @@ pub(crate) fn name_option(name: &str) -> Named
         .or(line_name(name))
         .or(form_name(name))
         .or(file_name(name))
+        .or(about_name(name))
         .or(left_out(name))
         .unwrap_or(Named::Unknown)
 }
@@ -218,6 +223,17 @@ fn file_name(name: &str) -> Option<Named>
         "update" => Some(Named::Switch(Switch::Update)),
         "no-update" => Some(Named::Switch(Switch::NoUpdate)),
         "no-state" => Some(Named::Switch(Switch::NoState)),
+        _ => None,
+    }
+}
+
+/// Names of options that ask about the program.
+fn about_name(name: &str) -> Option<Named>
+    ensures { result ≡ about_name name.now }
+{
+    match name {
+        "help" => Some(Named::Switch(Switch::Help)),
+        "version" => Some(Named::Switch(Switch::Version)),
         _ => None,
     }
 }

@@ -1,6 +1,6 @@
 // What the options of `cs` ask for.
 ghost use Rattle.std.specs.Prelude.{◌≡◌, Some, None};
-ghost use Rattle.cs_project.specs.Settings.{counted, with_form, with_switch, form_in, shown_in};
+ghost use Rattle.cs_project.specs.Settings.{no_switches, counted, with_form, with_switch, form_in, shown_in};
 
 use crate::form::{LineForm, Mode, ShowOptions};
 use crate::named::Switch;
@@ -14,6 +14,10 @@ pub enum Task {
     Files,
     /// The types of files are printed (`--type-list`).
     Types,
+    /// The options are printed (`--help`).
+    Help,
+    /// The version is printed (`--version`).
+    Version,
 }
 
 /// How a text is made a pattern.
@@ -76,7 +80,9 @@ pub struct Surroundings {
 
 impl Switches {
     /// Without options.
-    pub fn new() -> Switches {
+    pub fn new() -> Switches
+        ensures { result ≡ no_switches }
+    {
         Switches {
             task: Task::Search,
             mode: Mode::Lines,
@@ -129,6 +135,8 @@ impl Switches {
             Switch::Bare => self.named = Some(false),
             Switch::Files => self.task = Task::Files,
             Switch::TypeList => self.task = Task::Types,
+            Switch::Help => self.task = Task::Help,
+            Switch::Version => self.task = Task::Version,
             _ => self.set_form(switch),
         }
     }

@@ -27,6 +27,8 @@ pub mod ParseErrors
 pub mod Levels
 pub mod Quoting
 pub mod BarredPatterns
+pub mod Joining
+pub mod FaultTexts
 -- Definitions that only private contracts cite.
 pub mod Bits
 pub mod SetWords

@@ -9,6 +9,7 @@ ghost use Rattle.cs_syntax.specs.Cuts.{Divide, AreCuts, AreCutsOf, char_ranges, 
 ghost use Rattle.cs_syntax.specs.CharSteps.{taken_at, MatchesEntered};
 ghost use Rattle.cs_syntax.specs.Matching.{Tree, one_of, rep};
 ghost use Rattle.cs_syntax.specs.BarredPatterns.{IsSelfContained, MatchesEither};
+ghost use Rattle.cs_syntax.specs.Joining.{either, MatchesWholeLine};
 ghost use Rattle.cs_syntax.specs.ByteSet.{char_set};
 ghost use Rattle.cs_syntax.specs.ByteKinds.{byte_kind_of};
 ghost use Rattle.cs_syntax.specs.Tokens.{sequence};
@@ -68,6 +69,13 @@ pub fn bars_parse_as_alternations()
     ensures { (s t : List ℕ) (fold : Bool) (x y : Tree) → IsSelfContained fold s
         → ParsesAs s fold x → ParsesAs t fold y
         → (z : Tree) × ParsesAs (s ++ 124 ∷ t) fold z × MatchesEither z x y }
+{}
+
+/// The tree of either of two trees matches exactly the spans that one of them matches, and the tree
+/// of a whole line exactly the lines whose whole span the tree matches.
+pub fn joined_trees_match_as_said()
+    ensures either { (x y : Tree) → MatchesEither (either x y) x y }
+    ensures whole_line { (t : Tree) → MatchesWholeLine t }
 {}
 
 /// Canonical ranges with the same members are equal, and `canonical_ranges` of a predicate has

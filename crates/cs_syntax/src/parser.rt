@@ -252,13 +252,7 @@ pub fn parse(alloc: Global, text: &str, fold: bool) -> Result<Pattern, PatternEr
     ensures rejected { IfErr result (IsParseError text.now fold) }
 {
     let root = read(alloc, text, fold)?;
-    match Pattern::new(root) {
-        Some(pattern) => Ok(pattern),
-        None => Err(PatternError {
-            fault: PatternFault::TooLarge,
-            at: 0,
-        }),
-    }
+    Pattern::new(root)
 }
 
 fn read(alloc: Global, text: &str, fold: bool) -> Result<Node, PatternError>

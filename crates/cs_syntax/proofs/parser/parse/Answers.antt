@@ -1,9 +1,10 @@
-use Rattle.std.proofs.Common.{inl, inr, ℕ, List, Bool, refl, rules}
+use Rattle.std.proofs.Common.{inl, inr, ℕ, List, Bool, rules}
 use Rattle.cs_syntax.specs.Node.{tree_of}
 use Rattle.cs_syntax.specs.ParserState.{IsErrorOf}
 use Rattle.cs_syntax.specs.Parsing.{parse_result}
-use Rattle.cs_syntax.specs.ParseErrors.{IsParseError, syntax, too_large, memory}
+use Rattle.cs_syntax.specs.ParseErrors.{IsParseError, syntax, memory}
 use Rattle.cs_syntax.specs.declared.fault.PatternError.{PatternError}
+use Rattle.cs_syntax.proofs.JoiningLemmas.{parsed_tree}
 use Rattle.cs_syntax.proofs.ParseLemmas.{text_fault}
 use Rattle.cs_syntax.proofs.parser.parse.Goals as goal
 
@@ -17,5 +18,7 @@ returns-in_err-root-clause-rejected c =
     c.in_err-root.field-0.0 c.in_err-root.ensures.syntax in
     search rules
 
-pub returns-in-None-clause-rejected : goal.returns-in-None-clause-rejected
-returns-in-None-clause-rejected c = too_large refl refl (tree_of c.in_ok-root.root) c.in_ok-root.ensures.reads c.in-None.ensures
+pub returns : goal.returns
+returns c =
+    let is = parsed_tree c.args.text.now c.args.fold (tree_of c.in_ok-root.root) c.new.result c.in_ok-root.ensures.reads c.new.ensures in
+    record { reads = is.0; light = is.1; rejected = is.2 }

@@ -1,0 +1,8 @@
+-- Definitions that public contracts cite: what words ask for.
+pub mod Options
+pub mod Values
+pub mod Choices
+pub mod Patterns
+pub mod Texts
+pub mod Requests
+pub mod Lines

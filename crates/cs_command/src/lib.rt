@@ -1,0 +1,26 @@
+//! What a command line of `cs` asks for. Read `specs/Requests.antt` first: the request of a list of
+//! words, or the error of one that asks for nothing. `specs/Options.antt` says which value of an
+//! option counts, `specs/Values.antt` what the values are, `specs/Choices.antt` which files they
+//! choose, and `specs/Patterns.antt` what is searched for.
+//!
+//! `read_items` of cs_project reads the words as options and operands. `read_request` goes over
+//! them once for the options (`Options`), and then reads their values: numbers, colours, globs and
+//! types, and at last the patterns. Each pattern is parsed alone, so that an error is in its own
+//! pattern, and the trees are joined. `fault_line` has the line of an error, `HELP` the options.
+#![tactic(auto)]
+
+mod choosing;
+mod fault;
+mod help;
+mod lines;
+mod options;
+mod patterns;
+mod request;
+mod texts;
+mod values;
+
+pub use fault::RequestFault;
+pub use help::HELP;
+pub use lines::fault_line;
+pub use options::WordPart;
+pub use request::{Request, read_request};

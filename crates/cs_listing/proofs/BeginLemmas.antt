@@ -8,10 +8,10 @@ use Rattle.cs_tree.specs.Folders.{names_listed}
 use Rattle.cs_tree.specs.Clean.{path_of, with_slashes}
 use Rattle.cs_listing.specs.Layers.{FolderRules}
 use Rattle.cs_listing.specs.Models.{folder_of, folder_name, folders_in, all_names, settings_of}
-use Rattle.cs_listing.specs.Listing.{TreeItems, folders_to, is_found}
+use Rattle.cs_listing.specs.Listing.{Settings, TreeItems, folders_to, is_found}
 use Rattle.cs_listing.specs.FolderReads.{InTree, entry_path, folder_read, keys_taken}
 use Rattle.cs_listing.specs.Entries.{AreKeysOf}
-use Rattle.cs_listing.specs.Walk.{above_in, keys_in, keys_of_all, frames_in, is_to_come, IsOf, Begins, Enters, Opens}
+use Rattle.cs_listing.specs.Walk.{settings_in, above_in, keys_in, keys_of_all, frames_in, is_to_come, IsOf, Begins, Enters, Opens}
 use Rattle.cs_listing.specs.declared.layers.Layers.{Layers}
 use Rattle.cs_listing.specs.declared.layers.FolderRules.{FolderRules as OwnFolder}
 use Rattle.cs_listing.specs.declared.walk.Walk.{Walk}
@@ -22,7 +22,7 @@ use Rattle.cs_listing.proofs.VisitLemmas.{last_first, is_of, has_all}
 -- the folder of the layers is that of the tree with these elements, last one first, and lists these names
 abbrev pub IsAt : TreeItems → List (List ℕ) → Walk → List (List ℕ) → Type 0
 IsAt items above walk names =
-    (folders_in walk.layers ≡ folders_to items above) × (names ≡ names_listed (items (path_of above))) × (are_elements names ≡ true)
+    (folders_in walk.layers ≡ folders_to (settings_in walk).takes_ignored items above) × (names ≡ names_listed (items (path_of above))) × (are_elements names ≡ true)
 
 -- the folders with these names have been entered, each in the one before, and none is open
 pub record HasEntered (s : Option Snapshot) (start : List (List ℕ)) (walk : Walk) (stem : List ℕ) (names : List (List ℕ)) : Type 0 where
@@ -32,10 +32,10 @@ pub record HasEntered (s : Option Snapshot) (start : List (List ℕ)) (walk : Wa
   pub at : InTree s (λ items. IsAt items (reverse start) walk names)
 
 pub enters_root : (s : Option Snapshot) (names : List (List ℕ)) (stem : List ℕ) (old new : Walk) →
-    all_names old.layers ≡ [] → folders_in old.layers ≡ [] → old.frames.items ≡ [] → stem ≡ [] →
+    all_names old.layers ≡ [] → folders_in old.layers ≡ [] → old.frames.items ≡ [] → stem ≡ [] → settings_in new ≡ settings_in old →
     InTree s (λ items. Enters items stem names old new) → all_names new.layers ≡ all_names old.layers ++ [] ∷ [] →
     new.frames ≡ old.frames → HasEntered s [] new stem names
-enters_root s names stem old new none no_folders no_frames empty enters more frames = record {
+enters_root s names stem old new none no_folders no_frames empty settings enters more frames = record {
   all = more ∙ ap (λ (all : List (List ℕ)). all ++ [] ∷ []) none;
   none_open = ap (λ v. v.items) frames ∙ no_frames;
   text = empty;
@@ -45,17 +45,20 @@ enters_root s names stem old new none no_folders no_frames empty enters more fra
     by_model : (o : Option Snapshot) → InTree o (λ items. Enters items [] names old new) → InTree o (λ items. IsAt items [] new names)
     by_model None enters = tt
     by_model (Some tree) enters =
-        let read = folder_is (item_at tree) [] names enters.0 in (
-          enters.2 ∙ ap (λ (fs : List FolderRules). fs ++ folder_read (item_at tree) [] names ∷ []) no_folders ∙ ap (λ f. f ∷ []) read.1,
+        let read = folder_is (settings_in old).takes_ignored (item_at tree) [] names enters.0 in (
+          enters.2
+              ∙ ap (λ (fs : List FolderRules). fs ++ folder_read (settings_in old).takes_ignored (item_at tree) [] names ∷ []) no_folders
+              ∙ ap (λ f. f ∷ []) read.1
+              ∙ sym (ap (λ (s : Settings). folders_to s.takes_ignored (item_at tree) []) settings),
           read.0,
           enters.1,
         )
 
 pub enters_more : (s next : Option Snapshot) (start : List (List ℕ)) (name : List ℕ) (stem later : List ℕ) (names listed : List (List ℕ))
-    (old new : Walk) → next ≡ s → HasEntered s start old stem names → later ≡ entry_path stem name →
+    (old new : Walk) → next ≡ s → HasEntered s start old stem names → later ≡ entry_path stem name → settings_in new ≡ settings_in old →
     InTree next (λ items. Enters items later listed old new) → all_names new.layers ≡ all_names old.layers ++ name ∷ [] →
     new.frames ≡ old.frames → HasEntered s (start ++ name ∷ []) new later listed
-enters_more s next start name stem later names listed old new same has text enters more frames =
+enters_more s next start name stem later names listed old new same has text settings enters more frames =
     let above : reverse (start ++ name ∷ []) ≡ name ∷ reverse start = last_first start name in
     let at : later ≡ with_slashes (name ∷ reverse start) = text ∙ ap (λ t. entry_path t name) has.text in
     record {
@@ -72,10 +75,12 @@ enters_more s next start name stem later names listed old new same has text ente
         InTree o (λ items. IsAt items (name ∷ reverse start) new listed)
     by_model None at enters = tt
     by_model (Some tree) at enters =
-        let read = folder_is (item_at tree) (name ∷ reverse start) listed enters.0 in (
+        let ti = (settings_in old).takes_ignored in
+        let read = folder_is ti (item_at tree) (name ∷ reverse start) listed enters.0 in (
           enters.2
-              ∙ ap (λ (fs : List FolderRules). fs ++ folder_read (item_at tree) (with_slashes (name ∷ reverse start)) listed ∷ []) at.0
-              ∙ ap (λ f. folders_to (item_at tree) (reverse start) ++ f ∷ []) read.1,
+              ∙ ap (λ (fs : List FolderRules). fs ++ folder_read ti (item_at tree) (with_slashes (name ∷ reverse start)) listed ∷ []) at.0
+              ∙ ap (λ f. folders_to ti (item_at tree) (reverse start) ++ f ∷ []) read.1
+              ∙ sym (ap (λ (s : Settings). folders_to s.takes_ignored (item_at tree) (name ∷ reverse start)) settings),
           read.0,
           enters.1,
         )

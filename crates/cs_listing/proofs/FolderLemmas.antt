@@ -4,7 +4,7 @@ use Rattle.std.specs.Path.{slash}
 use Rattle.std.specs.List.{cons_option}
 use Rattle.std.specs.Option.{option_to_list}
 use Rattle.std.specs.declared.alloc.Global.{Global}
-use Rattle.std.proofs.Common.{◌≡◌, refl, ℕ, ◌+◌, ◌<◌, ◌≤◌, if◌then◌else◌, List, [], ◌∷◌, ◌++◌, length, take, map, get_or, sym, ap, subst, ◌∙◌, append_assoc}
+use Rattle.std.proofs.Common.{◌≡◌, refl, ℕ, Bool, ◌+◌, ◌<◌, ◌≤◌, if◌then◌else◌, List, [], ◌∷◌, ◌++◌, length, take, map, get_or, sym, ap, subst, ◌∙◌, append_assoc}
 use Rattle.std.proofs.lemmas.List.{map-append, take_all}
 use Rattle.std.proofs.lemmas.List.Elements.{filter_map-append}
 use Rattle.cs_tree.specs.Snapshot.{Snapshot, item_at}
@@ -15,7 +15,7 @@ use Rattle.cs_tree.proofs.NameLemmas.{mapped_more}
 use Rattle.cs_listing.specs.Layers.{FolderRules}
 use Rattle.cs_listing.specs.Models.{rules_in, rules_if}
 use Rattle.cs_listing.specs.Listing.{TreeItems, folder_at}
-use Rattle.cs_listing.specs.FolderReads.{InTree, folder_path, entry_path, rules_among, exclude_read, folder_read, key_taken, keys_taken}
+use Rattle.cs_listing.specs.FolderReads.{InTree, folder_path, entry_path, rules_among, exclude_read, rule_files_read, folder_read, key_taken, keys_taken}
 use Rattle.cs_listing.specs.Entries.{entry_key, entry_keys, AreKeysOf}
 use Rattle.cs_listing.specs.declared.rules.Rules.{Rules}
 use Rattle.cs_listing.specs.declared.entries.Entry.{Entry}
@@ -29,7 +29,7 @@ pub rules_read : (s first second : Option Snapshot) (stem : List ℕ) (names : L
     InTree first (λ items. rules_in g ≡ rules_among items stem names (codes ".gitignore")) →
     InTree second (λ items. rules_if e ≡ exclude_read items stem names) →
     InTree s (λ items. let read : FolderRules = record { ignore = rules_in i; gitignore = rules_in g; exclude = rules_if e } in
-    read ≡ folder_read items stem names)
+    read ≡ rule_files_read items stem names)
 rules_read s first second stem names i g e a b of_i of_g of_e =
     by_model s of_i
     (subst (λ o. InTree o (λ items. rules_in g ≡ rules_among items stem names (codes ".gitignore"))) a of_g)
@@ -39,7 +39,7 @@ rules_read s first second stem names i g e a b of_i of_g of_e =
         InTree o (λ items. rules_in g ≡ rules_among items stem names (codes ".gitignore")) →
         InTree o (λ items. rules_if e ≡ exclude_read items stem names) →
         InTree o (λ items. let read : FolderRules = record { ignore = rules_in i; gitignore = rules_in g; exclude = rules_if e } in
-        read ≡ folder_read items stem names)
+        read ≡ rule_files_read items stem names)
     by_model None of_i of_g of_e = tt
     by_model (Some tree) of_i of_g of_e = cc
 
@@ -53,12 +53,12 @@ path_is (name ∷ above) = not_empty (with_slashes above)
     not_empty (b ∷ text) = refl
 
 -- what is read of a folder is what the tree has
-pub folder_is : (items : TreeItems) (above : List (List ℕ)) (names : List (List ℕ)) →
+pub folder_is : (ti : Bool) (items : TreeItems) (above : List (List ℕ)) (names : List (List ℕ)) →
     names ≡ names_listed (items (folder_path (with_slashes above))) →
-    (names ≡ names_listed (items (path_of above))) × (folder_read items (with_slashes above) names ≡ folder_at items above)
-folder_is items above names listed =
+    (names ≡ names_listed (items (path_of above))) × (folder_read ti items (with_slashes above) names ≡ folder_at ti items above)
+folder_is ti items above names listed =
     let at : names ≡ names_listed (items (path_of above)) = listed ∙ ap (λ path. names_listed (items path)) (path_is above) in
-    (at, ap (folder_read items (with_slashes above)) at)
+    (at, ap (folder_read ti items (with_slashes above)) at)
 
 -- ---- entries
 

@@ -10,6 +10,8 @@ pub mod TokenLemmas
 pub mod WorkLemmas
 pub mod LayerLemmas
 pub mod ReadLemmas
+pub mod BraceLemmas
+mod BraceExamples
 mod Examples
 mod LayerExamples
 mod ListingExamples

@@ -1,8 +1,7 @@
 -- What the last rule says.
 use Rattle.std.proofs.Common.{◌≡◌, refl, ℕ, Bool, true, false, cond, List, [], ◌∷◌, ◌++◌, map, length, eqb, sym, ap, ◌∙◌, subst, ◌+◌, arith, append_assoc}
 use denote.Ref.{Bor}
-use Rattle.std.specs.Prelude.{Option, Some, None, Result, Ok, Err, OnOk, nat_lt, filter_map}
-use Rattle.std.specs.Option.{option_to_list}
+use Rattle.std.specs.Prelude.{Option, Some, None, nat_lt, filter_map}
 use Rattle.std.specs.Path.{slash}
 use Rattle.std.specs.List.{IsLastAndRest, cons_option}
 use Rattle.std.proofs.lemmas.List.{map-append, append-nil}
@@ -96,27 +95,25 @@ adds : (o : Option Rule) (before after : List OwnRule) → AddsRule o before aft
 adds None before after h = ap (map rule_of) h ∙ sym (append-nil (map rule_of before))
 adds (Some rule) before after h = h
 
--- the rule of a text is added, if it has one
-pub added : (o : Option Rule) (before after : List OwnRule) → AddsRule o before after → map rule_of after ≡ map rule_of before ++ option_to_list o
-added None before after h = ap (map rule_of) h ∙ sym (append-nil (map rule_of before))
-added (Some rule) before after h = h
+-- one more text
+pub text_more : (decision : Decision) (first before after : List OwnRule) (texts : List (List ℕ)) (text : List ℕ) →
+    map rule_of before ≡ map rule_of first ++ filter_map (rule_saying decision) texts →
+    AddsRule (rule_saying decision text) before after →
+    map rule_of after ≡ map rule_of first ++ filter_map (rule_saying decision) (texts ++ text ∷ [])
+text_more decision first before after texts text so_far one =
+    adds (rule_saying decision text) before after one ∙ ap (λ rs. rs ++ cons_option (rule_saying decision text) []) so_far
+    ∙ append_assoc (map rule_of first) (filter_map (rule_saying decision) texts) (cons_option (rule_saying decision text) [])
+    ∙ ap (λ rs. map rule_of first ++ rs) (sym (filter_map-append (rule_saying decision) texts (text ∷ [])))
 
-pub on_added : {E : Type 0} (o : Option Rule) (before after : List OwnRule) (r : Result (Unit {0}) E) → OnOk r (AddsRule o before after) →
-    OnOk r (map rule_of after ≡ map rule_of before ++ option_to_list o)
-on_added o before after (Ok x) h = added o before after h
-on_added o before after (Err e) h = tt
-
--- one more text between spaces
+-- the same between spaces
 pub saying_more : (decision : Decision) (first before after : List OwnRule) (texts : List (Bor (List ℕ))) (text : Bor (List ℕ)) →
     map rule_of before ≡ map rule_of first ++ filter_map (rule_saying decision) (names texts) →
     AddsRule (rule_saying decision text.now) before after →
     map rule_of after ≡ map rule_of first ++ filter_map (rule_saying decision) (names (texts ++ text ∷ []))
 saying_more decision first before after texts text so_far one =
-    adds (rule_saying decision text.now) before after one ∙ ap (λ rs. rs ++ cons_option (rule_saying decision text.now) []) so_far
-    ∙ append_assoc (map rule_of first) (filter_map (rule_saying decision) (names texts)) (cons_option (rule_saying decision text.now) [])
-    ∙ ap (λ rs. map rule_of first ++ rs)
-    (sym (ap (filter_map (rule_saying decision)) (map-append (λ (name : Bor (List ℕ)). name.now) texts (text ∷ []))
-    ∙ filter_map-append (rule_saying decision) (names texts) (text.now ∷ [])))
+    text_more decision first before after (names texts) text.now so_far one
+    ∙ ap (λ ts. map rule_of first ++ filter_map (rule_saying decision) ts)
+    (sym (map-append (λ (name : Bor (List ℕ)). name.now) texts (text ∷ [])))
 
 -- one more line
 pub line_more : (before after : List OwnRule) (lines : List (Bor (List ℕ))) (line : Bor (List ℕ)) →

@@ -89,25 +89,25 @@ append_last xs ys x y same =
     tails e = cc
 
 -- the layers around the deepest folder
-module _ (items : TreeItems) (old new : Layers) (left : Option OwnFolder) (name : List ℕ) (above : List (List ℕ))
+module _ (ti : Bool) (items : TreeItems) (old new : Layers) (left : Option OwnFolder) (name : List ℕ) (above : List (List ℕ))
     (all : old.folders.items ≡ new.folders.items ++ option_to_list left) (some : is_some left ≡ true)
-    (place : above_in old ≡ name ∷ above) (rules : folders_in old ≡ folders_to items (name ∷ above)) where
+    (place : above_in old ≡ name ∷ above) (rules : folders_in old ≡ folders_to ti items (name ∷ above)) where
   by_last : (o : Option OwnFolder) → is_some o ≡ true → old.folders.items ≡ new.folders.items ++ option_to_list o →
-      (folders_in new ≡ folders_to items above) × (above_in new ≡ above)
+      (folders_in new ≡ folders_to ti items above) × (above_in new ≡ above)
   by_last None is all = cc
   by_last (Some last) is all =
-      let outer : folders_in new ≡ folders_to items above =
-      append_last (folders_in new) (folders_to items above) (folder_of last) (folder_at items (name ∷ above))
+      let outer : folders_in new ≡ folders_to ti items above =
+      append_last (folders_in new) (folders_to ti items above) (folder_of last) (folder_at ti items (name ∷ above))
       (sym (ap folders_of all ∙ map-append folder_of new.folders.items (last ∷ [])) ∙ rules) in
       let names : all_names old ≡ all_names new ++ folder_name last ∷ [] =
       ap (map folder_name) all ∙ map-append folder_name new.folders.items (last ∷ []) in
-      let count : 0 < length (all_names new) = omega (arith, names_count new, ap length outer, some_folders items above) in
+      let count : 0 < length (all_names new) = omega (arith, names_count new, ap length outer, some_folders ti items above) in
       (outer, tails (sym (above_more (all_names new) (folder_name last) count) ∙ sym (ap (λ (ns : List (List ℕ)). reverse (drop 1 ns)) names) ∙ place))
     where
       tails : folder_name last ∷ above_in new ≡ name ∷ above → above_in new ≡ above
       tails e = cc
 
-  pub outer_layers : (folders_in new ≡ folders_to items above) × (above_in new ≡ above)
+  pub outer_layers : (folders_in new ≡ folders_to ti items above) × (above_in new ≡ above)
   outer_layers = by_last left some all
 
 -- what is to come after the deepest folder, which has no entries
@@ -128,10 +128,13 @@ left_is items old new left frame frames all some settings empty are = by_frames 
     )
     by_frames (next ∷ fs) [] place around = absurd (subst (λ a. AreAround items a (next ∷ fs)) place around)
     by_frames (next ∷ fs) (name ∷ above) place around =
-        let outer = outer_layers items old new left name above all (some (omega (arith, ap length are.0, some_folders items (above_in old)))) place (are.0 ∙ ap (folders_to items) place) in
+        let ti = (settings_of old).takes_ignored in
+        let outer = outer_layers ti items old new left name above all (some (omega (arith, ap length are.0, some_folders ti items (above_in old)))) place
+        (are.0 ∙ ap (folders_to ti items) place) in
         let at = subst (λ a. AreAround items a (next ∷ fs)) place around in (
           (
-            outer.0 ∙ ap (folders_to items) (sym outer.1),
+            outer.0 ∙ ap (folders_to ti items) (sym outer.1)
+            ∙ sym (ap (λ (s : Settings). folders_to s.takes_ignored items (above_in new)) settings),
             subst (λ a. IsOpen items [] a next) (sym outer.1) (record {
               stem = at.1.stem;
               ascend = rest_ascend (key_of true name) (keys_in next) at.1.ascend;
@@ -271,7 +274,7 @@ visits_in (Some tree) old mid new rest frame next entry name path frames later l
     text ∙ ap (λ t. entry_path t name) at.1.stem ∙ ap (λ a. with_slashes (name ∷ a)) (sym place) in
     let visited_now = visit (
       λ none. not_none (sym after ∙ none),
-      ap folders_in layers ∙ at.0 ∙ ap (folders_to items) (sym place),
+      ap folders_in layers ∙ at.0 ∙ sym (ap (λ l. folders_to (settings_of l).takes_ignored items (above_in l)) layers),
       subst (λ a. AreAround items (name ∷ a) (frames_in mid)) (sym place) (subst (AreAround items (name ∷ above)) (sym after) around),
       where_is,
       omega (

@@ -183,7 +183,7 @@ entered settings items above name (first ∷ path) reached found =
     (and_parts (is_taken settings items (has_more path) (name ∷ above) first) (is_reached settings items (first ∷ (name ∷ above)) path) reached).0).0).0
 
 module _ (layers : Layers) (items : TreeItems) (above names : List (List ℕ))
-    (rules : folders_in layers ≡ folders_to items above) (place : names_in layers ≡ reverse above)
+    (rules : folders_in layers ≡ folders_to (settings_of layers).takes_ignored items above) (place : names_in layers ≡ reverse above)
     (listed : names ≡ names_listed (items (path_of above))) (good : list_all is_element names ≡ true) where
   abbrev how : List ℕ → Option Bool
   how name = taken_as (out_by layers name) (kind_at items (path_of (name ∷ above)))
@@ -191,7 +191,7 @@ module _ (layers : Layers) (items : TreeItems) (above names : List (List ℕ))
   out_is : (is_folder : Bool) (name : List ℕ) → out_by layers name is_folder ≡ leaves_out (settings_of layers) items is_folder above name
   out_is is_folder name =
       ap (λ folders. is_left_out (settings_of layers) is_folder folders (names_in layers ++ name ∷ [])) rules
-      ∙ ap (λ path. is_left_out (settings_of layers) is_folder (folders_to items above) path)
+      ∙ ap (λ path. is_left_out (settings_of layers) is_folder (folders_to (settings_of layers).takes_ignored items above) path)
       (ap (λ path. path ++ name ∷ []) place ∙ sym (reverse_cons name above))
 
   how_is : (is_folder : Bool) (name : List ℕ) → is_as is_folder (how name)

@@ -3,7 +3,7 @@ use Rattle.std.specs.Prelude.{String, string_bytes}
 use Rattle.std.specs.Path.{slash}
 use Rattle.std.specs.List.{list_all}
 use Rattle.std.specs.declared.alloc.Global.{Global}
-use Rattle.std.proofs.Common.{◌≡◌, ◌≢◌, refl, ℕ, ◌<◌, ◌≤◌, true, List, [], ◌∷◌, ◌++◌, length, drop, reverse, sym, ap, subst, ◌∙◌, arith}
+use Rattle.std.proofs.Common.{◌≡◌, ◌≢◌, refl, ℕ, Bool, ◌<◌, ◌≤◌, true, List, [], ◌∷◌, ◌++◌, length, drop, reverse, sym, ap, subst, ◌∙◌, arith}
 use Rattle.std.proofs.lemmas.List.{reverse-append, reverse-reverse, length-reverse, length-append, length-map}
 use Rattle.std.proofs.lemmas.Bool.{and_parts}
 use Rattle.cs_tree.specs.NamesAscending.{are_ascending}
@@ -12,7 +12,7 @@ use Rattle.cs_tree.specs.Folders.{names_listed}
 use Rattle.cs_tree.specs.Clean.{path_of, with_slashes, longest_path}
 use Rattle.cs_listing.specs.Models.{folder_of, folder_name, folders_in, names_in, all_names, settings_of}
 use Rattle.cs_listing.specs.Layers.{FolderRules}
-use Rattle.cs_listing.specs.Listing.{TreeItems, folders_to, folder_at}
+use Rattle.cs_listing.specs.Listing.{Settings, TreeItems, folders_to, folder_at}
 use Rattle.cs_listing.specs.FolderReads.{key_of, keys_taken, folder_path, folder_read}
 use Rattle.cs_listing.specs.Entries.{AreKeysOf}
 use Rattle.cs_listing.specs.Walk.{is_to_come, settings_in, above_in, keys_in, keys_of_all, frames_in, IsOpen, AreAround, IsOf, IsVisit, Visits, Enters, with_key}
@@ -34,20 +34,22 @@ pub above_more : (all : List (List ℕ)) (name : List ℕ) → 0 < length all �
 above_more [] name some = absurd (omega (arith, some))
 above_more (x ∷ all) name some = last_first all name
 
-pub some_folders : (items : TreeItems) (above : List (List ℕ)) → 0 < length (folders_to items above)
-some_folders items [] = omega arith
-some_folders items (name ∷ above) = omega (arith, length-append (folders_to items above) (folder_at items (name ∷ above) ∷ []))
+pub some_folders : (ti : Bool) (items : TreeItems) (above : List (List ℕ)) → 0 < length (folders_to ti items above)
+some_folders ti items [] = omega arith
+some_folders ti items (name ∷ above) =
+    omega (arith, length-append (folders_to ti items above) (folder_at ti items (name ∷ above) ∷ []))
 
 pub names_count : (layers : Layers) → length (all_names layers) ≡ length (folders_in layers)
 names_count layers = length-map layers.folders.items folder_name ∙ sym (length-map layers.folders.items folder_of)
 
-pub some_names : (items : TreeItems) (layers : Layers) → folders_in layers ≡ folders_to items (above_in layers) → 0 < length (all_names layers)
-some_names items layers is = omega (arith, names_count layers, ap length is, some_folders items (above_in layers))
+pub some_names : (ti : Bool) (items : TreeItems) (layers : Layers) → folders_in layers ≡ folders_to ti items (above_in layers) →
+    0 < length (all_names layers)
+some_names ti items layers is = omega (arith, names_count layers, ap length is, some_folders ti items (above_in layers))
 
 -- ---- the entries of a folder are opened
 
 module _ (items : TreeItems) (layers : Layers) (above names : List (List ℕ)) (frame : Frame)
-    (place : above_in layers ≡ above) (rules : folders_in layers ≡ folders_to items above)
+    (place : above_in layers ≡ above) (rules : folders_in layers ≡ folders_to (settings_of layers).takes_ignored items above)
     (stem : string_bytes frame.stem ≡ with_slashes above) (ascend : are_ascending (keys_in frame) ≡ true)
     (keys : AreKeysOf (keys_in frame) (keys_taken layers items (with_slashes above) names))
     (listed : names ≡ names_listed (items (path_of above))) (good : are_elements names ≡ true) where
@@ -69,7 +71,7 @@ module _ (items : TreeItems) (layers : Layers) (above names : List (List ℕ)) (
 
   pub is_of : (frames : List Frame) → AreAround items above frames → IsOf items layers (frame ∷ frames)
   is_of frames are = (
-    rules ∙ ap (folders_to items) (sym place),
+    rules ∙ ap (folders_to (settings_of layers).takes_ignored items) (sym place),
     subst (λ a. IsOpen items [] a frame) (sym place) is_open,
     subst (λ a. AreAround items a frames) (sym place) are,
   )
@@ -92,13 +94,15 @@ pub visited : (items : TreeItems) (name : List ℕ) (stem : String Global) (name
     IsVisit items name stem old → Visits items name old new
 visited items name stem names frame old mid new enters more same settings opens at ascend keys layers visit =
     let outer = above_in old.layers in
+    let ti = (settings_in old).takes_ignored in
     let place : above_in mid.layers ≡ name ∷ outer =
-    ap (λ (all : List (List ℕ)). reverse (drop 1 all)) more ∙ above_more (all_names old.layers) name (some_names items old.layers visit.1) in
-    let read = folder_is items (name ∷ outer) names (enters.0 ∙ ap (λ t. names_listed (items (folder_path t))) visit.3) in
-    let rules : folders_in mid.layers ≡ folders_to items (name ∷ outer) =
-    enters.2 ∙ ap (λ (fs : List FolderRules). fs ++ folder_read items (string_bytes stem) names ∷ []) visit.1
-    ∙ ap (λ t. folders_to items outer ++ folder_read items t names ∷ []) visit.3
-    ∙ ap (λ f. folders_to items outer ++ f ∷ []) read.1 in
+    ap (λ (all : List (List ℕ)). reverse (drop 1 all)) more ∙ above_more (all_names old.layers) name (some_names ti items old.layers visit.1) in
+    let read = folder_is ti items (name ∷ outer) names (enters.0 ∙ ap (λ t. names_listed (items (folder_path t))) visit.3) in
+    let rules : folders_in mid.layers ≡ folders_to (settings_in mid).takes_ignored items (name ∷ outer) =
+    enters.2 ∙ ap (λ (fs : List FolderRules). fs ++ folder_read ti items (string_bytes stem) names ∷ []) visit.1
+    ∙ ap (λ t. folders_to ti items outer ++ folder_read ti items t names ∷ []) visit.3
+    ∙ ap (λ f. folders_to ti items outer ++ f ∷ []) read.1
+    ∙ sym (ap (λ (s : Settings). folders_to s.takes_ignored items (name ∷ outer)) settings) in
     let text = ap string_bytes at ∙ visit.3 in
     let taken = subst (λ t. AreKeysOf (keys_in frame) (keys_taken mid.layers items t names)) visit.3 keys in
     let frames : frames_in new ≡ frame ∷ frames_in old =

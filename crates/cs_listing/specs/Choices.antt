@@ -5,6 +5,7 @@ use Rattle.cs_listing.specs.declared.rules.Decision.{Decision}
 use Rattle.cs_listing.specs.declared.rules.Decision.TheVariants.{Ignore, TakeBack}
 use Rattle.cs_listing.specs.Rules.{Rule, or_else, decide}
 use Rattle.cs_listing.specs.RuleFiles.{rules_saying}
+use Rattle.cs_listing.specs.Braces.{AddsGlobs, globs_in}
 
 -- what the tree does not say
 pub record Settings : Type 0 where
@@ -71,6 +72,10 @@ glob_choice settings is_folder path = choice_of settings.globs is_folder (relati
 -- whether the types take a name; they say nothing of folders
 abbrev pub type_choice : Settings → Bool → List ℕ → Option Bool
 type_choice settings is_folder name = if is_folder then None else choice_of settings.types false (name ∷ [])
+
+-- The globs of a text with braces are added, if its braces match.
+abbrev pub AddsGlob : List ℕ → Bool → Settings → Settings → Type 0
+AddsGlob text is_glob old new = AddsGlobs (globs_in text) is_glob old.globs new.globs × (new ≡ record old { globs = new.globs })
 
 -- The globs of a type are added, in the order of their text; `is_left_out` says that they leave files out.
 abbrev pub AddsType : Bool → Bool → Settings → Settings → Type 0

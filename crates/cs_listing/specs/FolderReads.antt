@@ -11,7 +11,7 @@ use Rattle.cs_tree.specs.declared.tree.Kind.TheVariants as kind
 use Rattle.cs_tree.specs.Elements.{is_among}
 use Rattle.cs_tree.specs.Walks.{is_file}
 use Rattle.cs_listing.specs.Rules.{Rule}
-use Rattle.cs_listing.specs.Layers.{FolderRules, is_left_out}
+use Rattle.cs_listing.specs.Layers.{FolderRules, without_rules, is_left_out}
 use Rattle.cs_listing.specs.Models.{settings_of, folders_in, names_in}
 use Rattle.cs_listing.specs.RuleFileReads.{longest_rule_file}
 use Rattle.cs_listing.specs.Listing.{TreeItems, bytes_of_item, rules_of_item, exclude_path}
@@ -73,12 +73,17 @@ exclude_read items stem names =
     if is_among names (codes ".git") then Some (rules_of_item (items (exclude_path items stem))) else None
 
 -- the rule files of a folder that lists these names
-abbrev pub folder_read : TreeItems → List ℕ → List (List ℕ) → FolderRules
-folder_read items stem names = record {
+abbrev pub rule_files_read : TreeItems → List ℕ → List (List ℕ) → FolderRules
+rule_files_read items stem names = record {
   ignore = rules_among items stem names (codes ".ignore");
   gitignore = rules_among items stem names (codes ".gitignore");
   exclude = exclude_read items stem names;
 }
+
+-- a folder that lists these names; if ignored files are taken, no rule file is read
+abbrev pub folder_read : Bool → TreeItems → List ℕ → List (List ℕ) → FolderRules
+folder_read takes_ignored items stem names =
+    if takes_ignored then without_rules (is_among names (codes ".git")) else rule_files_read items stem names
 
 -- ---- entries
 

@@ -17,6 +17,10 @@ pub record FolderRules : Type 0 where
   -- if a repository begins here: the rules of its `info/exclude`
   pub exclude : Option (List Rule)
 
+-- a folder whose rule files count for nothing
+abbrev pub without_rules : Bool → FolderRules
+without_rules is_root = record { ignore = []; gitignore = []; exclude = if is_root then Some [] else None }
+
 -- The folders along a path are given from the top down. The elements of the path are the names of those below the first one,
 -- and last the name that is asked about.
 

@@ -7,6 +7,7 @@ pub mod Classes
 pub mod GlobText
 pub mod RuleFiles
 pub mod RuleFileReads
+pub mod Braces
 pub mod Choices
 pub mod Layers
 pub mod LayersWork

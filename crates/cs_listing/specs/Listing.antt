@@ -8,7 +8,7 @@ use Rattle.cs_tree.specs.Walks.{is_file}
 use Rattle.cs_listing.specs.Rules.{Rule}
 use Rattle.cs_listing.specs.RuleFiles.{rules_of}
 pub use Rattle.cs_listing.specs.GitFolders.{TreeItems, bytes_of_item, git_folder}
-use Rattle.cs_listing.specs.Layers.{FolderRules, is_left_out}
+use Rattle.cs_listing.specs.Layers.{FolderRules, without_rules, is_left_out}
 pub use Rattle.cs_listing.specs.Choices.{Settings, after}
 
 -- ---- the folders along a path. The elements of a folder are given last one first, as to `path_of`.
@@ -27,24 +27,30 @@ abbrev pub exclude_path : TreeItems → List ℕ → List ℕ
 exclude_path items stem = git_folder items stem ++ slash ∷ codes "info/exclude"
 
 -- the rule files of a folder of the tree; a folder that lists `.git` is the root of a repository
-abbrev pub folder_at : TreeItems → List (List ℕ) → FolderRules
-folder_at items above = record {
+abbrev pub rule_files_at : TreeItems → List (List ℕ) → FolderRules
+rule_files_at items above = record {
   ignore = rules_listed items above (codes ".ignore");
   gitignore = rules_listed items above (codes ".gitignore");
   exclude = if lists (items (path_of above)) (codes ".git") then Some (rules_of_item (items (exclude_path items (with_slashes above)))) else None;
 }
 
+-- a folder of the tree; if ignored files are taken, no rule file counts
+abbrev pub folder_at : Bool → TreeItems → List (List ℕ) → FolderRules
+folder_at takes_ignored items above =
+    if takes_ignored then without_rules (lists (items (path_of above)) (codes ".git")) else rule_files_at items above
+
 -- the folders from `/` down to this one
-abbrev pub folders_to : TreeItems → List (List ℕ) → List FolderRules
-folders_to items [] = folder_at items [] ∷ []
-folders_to items (name ∷ above) = folders_to items above ++ folder_at items (name ∷ above) ∷ []
+abbrev pub folders_to : Bool → TreeItems → List (List ℕ) → List FolderRules
+folders_to takes_ignored items [] = folder_at takes_ignored items [] ∷ []
+folders_to takes_ignored items (name ∷ above) =
+    folders_to takes_ignored items above ++ folder_at takes_ignored items (name ∷ above) ∷ []
 
 -- ---- what is listed
 
 -- whether the entry of a folder is left out, by the rule files from `/` down to the folder
 abbrev pub leaves_out : Settings → TreeItems → Bool → List (List ℕ) → List ℕ → Bool
 leaves_out settings items is_folder above name =
-    is_left_out settings is_folder (folders_to items above) (reverse (name ∷ above))
+    is_left_out settings is_folder (folders_to settings.takes_ignored items above) (reverse (name ∷ above))
 
 -- whether the folder lists the name, at a path within the limit, and does not leave it out
 abbrev pub is_taken : Settings → TreeItems → Bool → List (List ℕ) → List ℕ → Bool

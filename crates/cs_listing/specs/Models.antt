@@ -1,12 +1,13 @@
 -- The tokens, elements, rules and folders that the values of the code stand for.
 use denote.Ref.{Bor}
-use Rattle.std.specs.Prelude.{ℕ, ◌≡◌, ◌+◌, List, [], ◌∷◌, map, length, drop, string_bytes, Option, Some, None}
+use Rattle.std.specs.Prelude.{ℕ, ◌≡◌, ◌+◌, List, [], ◌∷◌, map, length, drop, reverse, string_bytes, Vec, Option, Some, None}
 use Rattle.cs_listing.specs.Globs.{GlobToken, byte, any, class, star, Element, folders, one}
 use Rattle.cs_listing.specs.Rules.{Rule}
 use Rattle.cs_listing.specs.Choices.{Settings, relative_to}
 use Rattle.cs_listing.specs.Layers.{FolderRules, Repository, last_name}
 use Rattle.cs_listing.specs.MatchWork.{rules_work}
 use Rattle.cs_listing.specs.LayersWork.{layers_work}
+use Rattle.cs_listing.specs.Braces.{OpenBraces, Expansion}
 use Rattle.cs_listing.specs.declared.glob.Token.{Token}
 use Rattle.cs_listing.specs.declared.glob.Token.TheVariants.{Byte, Any, Class, Star}
 use Rattle.cs_listing.specs.declared.glob.Element.{Element as OwnElement}
@@ -17,6 +18,9 @@ use Rattle.cs_listing.specs.declared.layers.FolderRules.{FolderRules as OwnFolde
 use Rattle.cs_listing.specs.declared.layers.Repository.{Repository as OwnRepository}
 use Rattle.cs_listing.specs.declared.layers.Layers.{Layers}
 use Rattle.cs_listing.specs.declared.choices.Choices.{Choices}
+use Rattle.cs_listing.specs.declared.braces.OpenBraces.{OpenBraces as OwnBraces}
+use Rattle.cs_listing.specs.declared.braces.Expansion.{Expansion as OwnExpansion}
+use Rattle.std.specs.declared.alloc.Global.{Global}
 
 abbrev pub token_of : Token → GlobToken
 token_of (Byte b) = byte b
@@ -112,3 +116,21 @@ repository_in (Some at) = Some (record {
   folders = folders_of at.folders.now;
   path = names at.path.now;
 })
+
+-- ---- texts with braces
+
+abbrev pub texts_of : List (Vec ℕ Global) → List (List ℕ)
+texts_of texts = map (λ (text : Vec ℕ Global). text.items) texts
+
+abbrev pub texts_in : Option (Vec (Vec ℕ Global) Global) → Option (List (List ℕ))
+texts_in None = None
+texts_in (Some texts) = Some (texts_of texts.items)
+
+abbrev pub braces_of : OwnBraces → OpenBraces
+braces_of own = record { before = texts_of own.before.items; ended = texts_of own.ended.items }
+
+abbrev pub around_in : OwnExpansion → List OpenBraces
+around_in at = reverse (map braces_of at.around.items)
+
+abbrev pub expansion_of : OwnExpansion → Expansion
+expansion_of at = record { texts = texts_of at.texts.items; around = around_in at }

@@ -1,12 +1,14 @@
 -- What functions that read the text of a rule file promise each other.
 use denote.Ref.{Bor}
-use Rattle.std.specs.Prelude.{ℕ, ◌≡◌, ◌≤◌, ◌<◌, ◌++◌, List, [], ◌∷◌, map, length, Option, Some, None, Vec}
+use Rattle.std.specs.Prelude.{ℕ, ◌≡◌, ◌≤◌, ◌<◌, ◌++◌, Bool, true, false, List, [], ◌∷◌, map, length, Option, Some, None, Vec}
 use Rattle.cs_listing.specs.Rules.{Rule as OneRule}
 use Rattle.cs_listing.specs.Classes.{class_item, class_items, range_from, quoted}
 use Rattle.cs_listing.specs.Globs.{GlobToken}
-use Rattle.cs_listing.specs.Models.{token_of, rule_of}
+use Rattle.cs_listing.specs.Braces.{Expansion}
+use Rattle.cs_listing.specs.Models.{token_of, rule_of, expansion_of}
 use Rattle.cs_listing.specs.declared.glob.Token.{Token}
 use Rattle.cs_listing.specs.declared.rules.Rule.{Rule}
+use Rattle.cs_listing.specs.declared.braces.Expansion.{Expansion as OwnExpansion}
 
 -- the rule, if there is one, is added
 abbrev pub AddsRule : Option OneRule → List Rule → List Rule → Type 0
@@ -36,3 +38,8 @@ ReadsClass text (Some read) = (class_items text ≡ Some (read.0.items, read.1))
 -- a token and its length, which is within the text
 abbrev pub ReadsToken : GlobToken × ℕ → List ℕ → Token × ℕ → Type 0
 ReadsToken token text read = (token ≡ (token_of read.0, read.1)) × (0 < read.1) × (read.1 ≤ length text)
+
+-- what a glob stands for after one piece more, if that fits
+abbrev pub ReadsPiece : Option Expansion → OwnExpansion → Bool → Type 0
+ReadsPiece after new true = after ≡ Some (expansion_of new)
+ReadsPiece after new false = after ≡ None

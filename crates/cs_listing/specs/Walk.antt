@@ -100,7 +100,7 @@ AreAround items (name ∷ above) (frame ∷ frames) =
 -- the rule files of the layers are those of the tree, and the open folders are of the tree, the deepest first
 abbrev pub IsOf : TreeItems → Layers → List Frame → Type 0
 IsOf items layers [] = Unit {0}
-IsOf items layers (frame ∷ frames) = (folders_in layers ≡ folders_to items (above_in layers))
+IsOf items layers (frame ∷ frames) = (folders_in layers ≡ folders_to (settings_of layers).takes_ignored items (above_in layers))
     × IsOpen items [] (above_in layers) frame × AreAround items (above_in layers) frames
 
 -- the walk is one of this tree: what it has read of the tree is still so
@@ -132,7 +132,7 @@ StepGives items old new step.More = IsWalkIn items new × ((path : List (List �
 abbrev pub Enters : TreeItems → List ℕ → List (List ℕ) → Walk → Walk → Type 0
 Enters items stem names old new =
     (names ≡ names_listed (items (folder_path stem))) × (are_elements names ≡ true)
-    × (folders_in new.layers ≡ folders_in old.layers ++ folder_read items stem names ∷ [])
+    × (folders_in new.layers ≡ folders_in old.layers ++ folder_read (settings_in old).takes_ignored items stem names ∷ [])
 
 -- A folder is opened: the entries that are taken are the next ones to come.
 abbrev pub Opens : Option Snapshot → String Global → List (List ℕ) → Walk → Walk → Type 0
@@ -159,7 +159,7 @@ GivesInOrder = (left : List (List ℕ) → Bool) (paths : List (List (List ℕ))
 -- a folder of the deepest one is to be visited: its rule files and those of the folders above are those of the tree
 abbrev pub IsVisit : TreeItems → List ℕ → String Global → Walk → Type 0
 IsVisit items name stem walk =
-    (frames_in walk ≢ []) × (folders_in walk.layers ≡ folders_to items (above_in walk.layers))
+    (frames_in walk ≢ []) × (folders_in walk.layers ≡ folders_to (settings_in walk).takes_ignored items (above_in walk.layers))
     × AreAround items (name ∷ above_in walk.layers) (frames_in walk)
     × (string_bytes stem ≡ with_slashes (name ∷ above_in walk.layers)) × (length (string_bytes stem) ≤ longest_path)
 

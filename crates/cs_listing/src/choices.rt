@@ -1,11 +1,9 @@
 // What the user chooses of the files of a project.
-ghost use Rattle.std.specs.Prelude.{◌≡◌, ◌+◌, ◌∷◌, ◌++◌, [], map, string_bytes, length, is_some, true, false, IfOk, OnOk};
-ghost use Rattle.std.specs.Option.{option_to_list};
+ghost use Rattle.std.specs.Prelude.{◌≡◌, ◌+◌, ◌∷◌, [], map, string_bytes, length, is_some, true, false, IfOk};
 ghost use Rattle.cs_prefilter.specs.CountsAtMost.{CountsAtMost};
-ghost use Rattle.cs_listing.specs.Choices.{Settings, plain_settings, AddsType, choice_of as choice_of', after, relative_to as relative_to', glob_choice, type_choice};
+ghost use Rattle.cs_listing.specs.Choices.{Settings, plain_settings, AddsGlob, AddsType, choice_of as choice_of', after, relative_to as relative_to', glob_choice, type_choice};
 ghost use Rattle.cs_listing.specs.Layers.{last_name as last_name'};
 ghost use Rattle.cs_listing.specs.MatchWork.{rules_work};
-ghost use Rattle.cs_listing.specs.RuleFiles.{rule_in};
 ghost use Rattle.cs_listing.specs.Models.{names, rules_in, chosen_in};
 
 use crate::rules::{Decision, Rules};
@@ -71,12 +69,13 @@ impl Choices {
     }
 
     /// Adds a glob, which takes files, or leaves them out if it begins with `!`. The last glob that
-    /// applies counts.
-    pub fn add_glob(&mut self, glob: &str) -> Result<(), AllocError>
-        ensures { OnOk result (chosen_in self.new ≡ record (chosen_in self.old)
-            { globs = (chosen_in self.old).globs ++ option_to_list (rule_in glob.now) }) }
+    /// applies counts. With braces, as in `*.{c,h}`, it stands for several. False if the braces do
+    /// not match, or if it stands for more than 1,000.
+    pub fn add_glob(&mut self, glob: &str) -> Result<bool, AllocError>
+        ensures { IfOk result
+            (λ is_glob. AddsGlob glob.now is_glob (chosen_in self.old) (chosen_in self.new)) }
     {
-        self.globs.add(self.alloc, glob.as_bytes())
+        self.globs.add_globs(self.alloc, glob.as_bytes())
     }
 
     /// Takes the files of a type, or leaves them out. The last glob of a type that applies counts.

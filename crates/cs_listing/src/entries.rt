@@ -10,7 +10,7 @@ ghost use Rattle.cs_listing.specs.Models.{names, names_in, rules_in, rules_if, f
 ghost use Rattle.cs_listing.specs.Layers.{is_left_out, last_name};
 ghost use Rattle.cs_listing.specs.GitFolders.{bytes_of_item, git_folder as git_folder', shared_folder as shared_folder'};
 ghost use Rattle.cs_listing.specs.Listing.{TreeItems, rules_of_item};
-ghost use Rattle.cs_listing.specs.FolderReads.{InTree, folder_path as folder_path', entry_path, rules_among, exclude_read, folder_read, kind_at, taken_as, key_of, key_taken, keys_taken};
+ghost use Rattle.cs_listing.specs.FolderReads.{InTree, folder_path as folder_path', entry_path, rules_among, exclude_read, rule_files_read, folder_read, kind_at, taken_as, key_of, key_taken, keys_taken};
 ghost use Rattle.cs_listing.specs.Entries.{taken_folder, entry_key, entry_keys, left_out_by, AreKeysOf, IsNameOf};
 
 use crate::fault::{ListFault, Unread};
@@ -174,8 +174,29 @@ impl FolderReader {
         Ok(())
     }
 
-    /// The rule files of a folder that lists these names.
-    pub(crate) fn rules<T: Look>(
+    /// The folder of this name that lists these. If ignored files are taken, no rule file is read.
+    pub(crate) fn folder<T: Look>(
+        &mut self,
+        tree: &mut T,
+        stem: &str,
+        names: &[String],
+        name: String,
+        takes_ignored: bool,
+    ) -> Result<FolderRules, AllocError>
+        ensures folder { IfOk result (λ folder. InTree (T.snapshot tree.old) (λ items.
+            folder_of folder ≡ folder_read takes_ignored items stem.now (map string_bytes names.now))) }
+        ensures name { IfOk result (λ folder. folder.name ≡ name) }
+        ensures keeps { T.snapshot tree.new ≡ T.snapshot tree.old }
+    {
+        if takes_ignored {
+            let is_root = is_listed(names, ".git");
+            return Ok(FolderRules::without_rules(self.alloc, name, is_root));
+        }
+        self.rules(tree, stem, names, name)
+    }
+
+    /// The same with its rule files.
+    fn rules<T: Look>(
         &mut self,
         tree: &mut T,
         stem: &str,
@@ -183,7 +204,7 @@ impl FolderReader {
         name: String,
     ) -> Result<FolderRules, AllocError>
         ensures rules { IfOk result (λ rules. InTree (T.snapshot tree.old)
-            (λ items. folder_of rules ≡ folder_read items stem.now (map string_bytes names.now))) }
+            (λ items. folder_of rules ≡ rule_files_read items stem.now (map string_bytes names.now))) }
         ensures name { IfOk result (λ rules. rules.name ≡ name) }
         ensures keeps { T.snapshot tree.new ≡ T.snapshot tree.old }
     {

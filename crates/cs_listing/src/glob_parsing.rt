@@ -56,7 +56,7 @@ fn add_elements(alloc: Global, glob: &mut Vec<Element>, text: &[u8]) -> Result<(
 }
 
 /// The token that a text begins with, and its length.
-fn first_token(alloc: Global, text: &[u8]) -> Result<(Token, usize), AllocError>
+pub(crate) fn first_token(alloc: Global, text: &[u8]) -> Result<(Token, usize), AllocError>
     requires { 0 < length text.now }
     ensures { IfOk result (λ read. ReadsToken (first_token' text.now) text.now read) }
 {

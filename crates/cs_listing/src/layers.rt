@@ -2,7 +2,7 @@
 ghost use Rattle.std.specs.Prelude.{◌≡◌, ◌≤◌, ◌++◌, [], ◌∷◌, drop, length, IfOk, OnOk, OnErr, IfSome, IsSome, is_some, ◌↔◌, ◌<◌, ◌+◌, ◌||◌};
 ghost use Rattle.std.specs.Option.{option_to_list};
 ghost use Rattle.cs_prefilter.specs.CountsAtMost.{CountsAtMost};
-ghost use Rattle.cs_listing.specs.Layers.{rules_at, deepest as deepest', repository_of as repository_of', repository_says, says as says', last_name as last_name', said_of, is_out_by_rules as is_out_by_rules', is_left_out as is_left_out'};
+ghost use Rattle.cs_listing.specs.Layers.{without_rules, rules_at, deepest as deepest', repository_of as repository_of', repository_says, says as says', last_name as last_name', said_of, is_out_by_rules as is_out_by_rules', is_left_out as is_left_out'};
 ghost use Rattle.cs_listing.specs.Choices.{Settings, is_too_deep as is_too_deep'};
 ghost use Rattle.cs_listing.specs.MatchWork.{rules_work};
 ghost use Rattle.cs_listing.specs.LayersWork.{files_work, repository_work};
@@ -57,6 +57,23 @@ pub struct Layers<'a> {
 }
 
 impl FolderRules {
+    /// A folder whose rule files count for nothing. A repository may begin in it.
+    pub(crate) fn without_rules(alloc: Global, name: String, is_root: bool) -> FolderRules
+        ensures rules { folder_of result ≡ without_rules is_root }
+        ensures name { result.name ≡ name }
+    {
+        FolderRules {
+            name,
+            ignore: Rules::none(alloc),
+            gitignore: Rules::none(alloc),
+            exclude: if is_root {
+                Some(Rules::none(alloc))
+            } else {
+                None
+            },
+        }
+    }
+
     fn rules(&self, file: RuleFile) -> &Rules
         ensures { rules_in result.now ≡ rules_at file (folder_of self.now) }
     {
@@ -185,6 +202,13 @@ impl<'a> Layers<'a> {
         ensures choices { KeepsChoices self.old self.new }
     {
         self.folders.pop()
+    }
+
+    /// Whether rule files count for nothing.
+    pub(crate) fn takes_ignored(&self) -> bool
+        ensures { result ≡ (settings_of self.now).takes_ignored }
+    {
+        self.choices.takes_ignored
     }
 
     /// The names of the folders below the topmost one: the path of the deepest folder.

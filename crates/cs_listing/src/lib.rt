@@ -26,9 +26,9 @@
 //! folders above. The walk does not enter a folder that is left out.
 //!
 //! `Choices` are those of the user (`specs/Choices.antt`): globs and types are rules too, with the
-//! meaning turned round, so that they take files. A glob comes before all rule files, a type after
-//! them. A depth is a limit of the names of a path, so whether a path is left out still does not
-//! depend on the walk.
+//! meaning turned round, so that they take files; a glob may have braces (`specs/Braces.antt`). A
+//! glob comes before all rule files, a type after them. A depth is a limit of the names of a path,
+//! so whether a path is left out still does not depend on the walk.
 //!
 //! `Walk` has two stacks: `Layers`, the rule files of the folders from `/` down, and frames, the
 //! entries of the open folders that are still to come, the next one last. `begin` lists each folder
@@ -41,6 +41,7 @@
 //! takes its first.
 #![tactic(auto)]
 
+mod braces;
 mod choices;
 mod classes;
 mod entries;

@@ -1,15 +1,16 @@
 // The rules of one file, and what the last of them says that applies to a path.
 ghost use Rattle.std.specs.Prelude.{◌≡◌, ◌++◌, [], IfOk, OnOk};
 ghost use Rattle.std.specs.List.{list_any};
-ghost use Rattle.std.specs.Option.{option_to_list};
 ghost use Rattle.cs_prefilter.specs.CountsAtMost.{CountsAtMost};
 ghost use Rattle.cs_listing.specs.Rules.{applies as applies', decide as decide'};
+ghost use Rattle.cs_listing.specs.Braces.{AddsGlobs, globs_in, globs_saying};
 ghost use Rattle.cs_listing.specs.Choices.{is_ignore as is_ignore', takes};
 ghost use Rattle.cs_listing.specs.MatchWork.{path_work, rules_work};
 ghost use Rattle.cs_listing.specs.Models.{names, rule_of, rules_in};
 ghost use Rattle.cs_listing.specs.RuleFiles.{rules_of, rule_of_line, rule_in, rule_saying, rules_saying};
 ghost use Rattle.cs_listing.specs.Reading.{AddsRule};
 
+use crate::braces::alternatives;
 use crate::classes::begins_with;
 use crate::glob::{Element, matches_path};
 use crate::glob_parsing::parse_glob;
@@ -90,11 +91,35 @@ impl Rules {
 }
 
 impl Rules {
-    /// Adds the rule of a text, if it is not empty. It may begin with `!`.
-    pub(crate) fn add(&mut self, alloc: Global, text: &[u8]) -> Result<(), AllocError>
-        ensures { OnOk result (rules_in self.new ≡ rules_in self.old ++ option_to_list (rule_in text.now)) }
+    /// Adds the globs that a text with braces stands for. It may begin with `!`. False if there are
+    /// none.
+    pub(crate) fn add_globs(&mut self, alloc: Global, text: &[u8]) -> Result<bool, AllocError>
+        ensures { IfOk result
+            (λ is_glob. AddsGlobs (globs_in text.now) is_glob (rules_in self.old) (rules_in self.new)) }
     {
-        add_text(alloc, &mut self.rules, text)
+        match text.split_first() {
+            Some((b'!', rest)) => self.add_alternatives(alloc, Decision::TakeBack, rest),
+            _ => self.add_alternatives(alloc, Decision::Ignore, text),
+        }
+    }
+
+    /// The same of a text without `!`.
+    fn add_alternatives(
+        &mut self,
+        alloc: Global,
+        decision: Decision,
+        text: &[u8],
+    ) -> Result<bool, AllocError>
+        ensures { IfOk result (λ is_glob. AddsGlobs (globs_saying decision text.now) is_glob
+            (rules_in self.old) (rules_in self.new)) }
+    {
+        let Some(globs) = alternatives(alloc, text)? else {
+            return Ok(false);
+        };
+        for glob in globs.iter() {
+            add_rule(alloc, &mut self.rules, decision, glob)?;
+        }
+        Ok(true)
     }
 
     /// Adds a rule for each of the texts between the spaces of a text.

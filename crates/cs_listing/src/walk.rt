@@ -162,8 +162,9 @@ impl<'a> Walk<'a> {
     {
         let listed = self.reader.list(tree, stem)?;
         let name = String::from_str(self.alloc, name)?;
-        let rules = self.reader.rules(tree, stem, &listed.names, name)?;
-        self.layers.enter(rules)?;
+        let ignored = self.layers.takes_ignored();
+        let folder = self.reader.folder(tree, stem, &listed.names, name, ignored)?;
+        self.layers.enter(folder)?;
         Ok(listed)
     }
 

@@ -1,6 +1,5 @@
 use Rattle.std.proofs.Common.{sym, ◌∙◌}
-use Rattle.cs_listing.specs.Models.{names}
-use Rattle.cs_listing.proofs.ChoiceLemmas.{is_within, below_is, elsewhere_is}
+use Rattle.cs_listing.proofs.ChoiceLemmas.{is_within, below_is}
 use Rattle.cs_listing.proofs.choices.relative_to.Goals as goal
 
 pub slice_bounds-result-count : goal.slice_bounds-result-count

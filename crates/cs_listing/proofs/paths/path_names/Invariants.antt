@@ -1,9 +1,8 @@
 use Rattle.std.proofs.Common.{◌≡◌, ◌++◌, length, map}
-use Rattle.std.specs.Prelude.{string_bytes, filter_map}
+use Rattle.std.specs.Prelude.{string_bytes}
 use denote.Text.{Utf8}
 use denote.Shadow.{shadow}
-use Rattle.cs_tree.specs.Clean.{elements}
-use Rattle.cs_listing.specs.PathNames.{name_in, names_along}
+use Rattle.cs_listing.specs.PathNames.{names_along}
 use Rattle.cs_listing.proofs.paths.path_names.Given as goal
 
 -- the names so far, and those of the rest, are those of the path

@@ -15,7 +15,7 @@ start-init g c =
     record {
       entered = enters_root (g.T.Tree.snapshot c.args.tree.now) (map string_bytes c.in_ok-listed.listed.names.items) (string_bytes c.new-stem.result)
           before c.enter.new.self (no_names c.new.result c.new.ensures.folders) c.new.ensures.folders c.new-2.ensures.items
-          c.new-stem.ensures.bytes
+          c.new-stem.ensures.bytes c.in_ok-listed.ensures.settings
           (subst (λ stem. InTree (g.T.Tree.snapshot c.args.tree.now) (λ items. Enters items stem
           (map string_bytes c.in_ok-listed.listed.names.items) before c.enter.new.self)) c.as_str.ensures.value c.in_ok-listed.ensures.enters)
           c.in_ok-listed.ensures.names c.in_ok-listed.ensures.frames;
@@ -38,6 +38,7 @@ start-preserved g c =
           (c.in_ok-stem.ensures
           ∙ ap (λ t. entry_path t c.as_str-in-start-2.result.now) c.as_str-in-start.ensures.value
           ∙ ap (λ n. entry_path (string_bytes c.start.stem) n) c.as_str-in-start-2.ensures.value)
+          c.in_ok-listed-2.ensures.settings
           (subst (λ stem. InTree (g.T.Tree.snapshot c.start.tree) (λ items. Enters items stem listed c.start.walk c.enter-in-start.new.self))
           c.as_str-in-start-4.ensures.value c.in_ok-listed-2.ensures.enters)
           (c.in_ok-listed-2.ensures.names ∙ ap (λ n. all_names c.start.walk.layers ++ n ∷ []) c.as_str-in-start-3.ensures.value)

@@ -1,3 +1,11 @@
 mod SearchLemmas
 mod TextLemmas
 mod FileLemmas
+mod NameLemmas
+mod WalkedLemmas
+mod ListedLemmas
+mod ShownLemmas
+mod ScopeLemmas
+mod ProjectLemmas
+mod HandedLemmas
+mod Examples

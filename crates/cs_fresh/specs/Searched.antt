@@ -1,5 +1,6 @@
 -- What a search prints for items one after another.
 use Rattle.std.specs.Prelude.{ℕ, ◌≡◌, Bool, false, ◌||◌, List, [], ◌∷◌, ◌++◌}
+use Rattle.std.specs.List.{flat_map}
 use Rattle.cs_tree.specs.Snapshot.{Item, folder, file, cut, other, bad}
 use Rattle.cs_project.specs.Findings.{Finding, IsFoundBy, KeepsSearch}
 use Rattle.cs_project.specs.Project.{ItemShown, nothing_shown, text_shown}
@@ -49,3 +50,7 @@ ShowsItems old new items given later =
 abbrev pub KeepsForm : FileSearch → FileSearch → Type 0
 KeepsForm old new = (new.options ≡ old.options) × (new.binary ≡ old.binary) × KeepsSearch old.search new.search
     × (new.reports.wrong ≡ false → old.reports.wrong ≡ false)
+
+-- the names of items, each with what ends it
+abbrev pub names_printed : List ℕ → List NamedItem → List ℕ
+names_printed end items = flat_map (λ item. item.0 ++ end) items

@@ -1,11 +1,11 @@
 // The search of one file after another.
-ghost use Rattle.std.specs.Prelude.{◌≡◌, ◌∷◌, ◌||◌, [], false, IfOk, OnOk};
+ghost use Rattle.std.specs.Prelude.{◌≡◌, ◌≤◌, ◌∷◌, ◌||◌, [], false, IfOk, OnOk};
 ghost use Rattle.cs_listing.specs.FolderReads.{InTree};
 ghost use Rattle.cs_fresh.specs.Searched.{KeepsForm, ShowsItems};
-ghost use Rattle.cs_fresh.specs.Sources.{ShowsSource};
+ghost use Rattle.cs_fresh.specs.Sources.{IsStatusOf, ShowsSource};
 
 use crate::fault::FreshFault;
-use crate::reports::Reports;
+use crate::reports::{Reports, status_of};
 use cs_output::Output;
 use cs_project::{Ended, Page, Search, ShowOptions, Window, print_file};
 use cs_tree::{Sink, Source, Tree, TreeReader};
@@ -108,6 +108,19 @@ impl<'p> FileSearch<'p> {
             }
             Err(fault) => self.reports.unopened(name, fault, err),
         }
+    }
+
+    /// The exit status, after a line of an error if not all matches of a line were found.
+    pub(crate) fn status<E: Sink>(&mut self, err: &mut E) -> Result<u8, FreshFault>
+        ensures status { IfOk result (IsStatusOf self.old) }
+        ensures within { IfOk result (λ status. status ≤ 2) }
+    {
+        if self.has_stopped() {
+            self.reports
+                .print("a line", "not all of its matches were found", err)?;
+            return Ok(2);
+        }
+        Ok(status_of(self.reports.wrong, self.marked))
     }
 
     /// Whether the matches of a line were not all found.

@@ -1,18 +1,33 @@
-//! A search of files as they are now, one after another. Read `specs/Searched.antt`: what is
-//! printed for items one after another.
+//! A search of a project as it is now, without an index. Read `specs/Searched.antt` first: what is
+//! printed for items one after another. `specs/Scopes.antt` says which items a search has, by the
+//! words of a command line, `specs/Names.antt` the names that they are printed with, and
+//! `specs/Projects.antt` what a whole search prints, and its exit status.
 //!
-//! A `FileSearch` opens a file, and prints what is to be printed for it while it is read
-//! (`print_file` of cs_project), so memory does not grow with a file, and the first line comes when
-//! its file is met. What is printed is said unless an error was reported (`Reports`), or a line has
-//! used up its budget.
+//! A `Scope` is the current folder, the words that name files and folders, and which files below a
+//! folder are searched. A word is looked up when its turn comes. A `FolderWalk` gives the files
+//! below a folder one by one (`Walk` of cs_listing), and a `FileSearch` opens each, and prints what
+//! is to be printed for it while it is read (`print_file` of cs_project), before the next one is
+//! looked for. So the first line comes when its file is met, and memory grows neither with a file
+//! nor with the number of files. What is printed is said unless an error was reported (`Reports`),
+//! or a line has used up its budget; the exit status is 2 then. The invariants of the loops name
+//! the items so far (`HasTaken`, `HasNamed`).
 //!
-//! The crate is apart from cs_project and cs_listing since it is to be the first one above both.
+//! The crate is apart from cs_project and cs_listing since it is the first one above both.
 #![tactic(auto)]
 
 mod fault;
 mod file_search;
 pub mod laws;
+mod names;
+mod places;
+mod project;
 mod reports;
+mod scope;
+mod sink_output;
+mod walks;
 
 pub use fault::FreshFault;
 pub use file_search::FileSearch;
+pub use project::{list_project, search_project};
+pub use scope::Scope;
+pub use sink_output::SinkOutput;

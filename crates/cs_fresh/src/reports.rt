@@ -1,8 +1,10 @@
 // The lines of errors.
-ghost use Rattle.std.specs.Prelude.{◌≡◌, true, false, OnOk};
+ghost use Rattle.std.specs.Prelude.{◌≡◌, ◌≤◌, true, false, OnOk};
+ghost use Rattle.cs_project.specs.Project.{status_by};
 ghost use Rattle.cs_fresh.specs.Reports.{MayReport};
 
 use crate::fault::FreshFault;
+use cs_listing::ListFault;
 use cs_tree::{Sink, TreeFault, write_all};
 use std::alloc::Global;
 
@@ -55,5 +57,58 @@ impl Reports {
             TreeFault::Failed => self.print(name, "cannot be read", err),
             TreeFault::Memory => Err(FreshFault::Memory),
         }
+    }
+
+    /// Reports a word of the command line at whose path nothing can be read.
+    pub(crate) fn unnamed<E: Sink>(
+        &mut self,
+        word: &str,
+        fault: TreeFault,
+        err: &mut E,
+    ) -> Result<(), FreshFault>
+        ensures reported { self.new.wrong ≡ true }
+    {
+        self.print(word, reason(fault), err)
+    }
+
+    /// Reports what a walk could not read.
+    pub(crate) fn unlisted<E: Sink>(
+        &mut self,
+        name: &str,
+        fault: ListFault,
+        err: &mut E,
+    ) -> Result<(), FreshFault>
+        ensures reported { self.new.wrong ≡ true }
+    {
+        let why = match fault {
+            ListFault::Tree(fault) => reason(fault),
+            ListFault::Unnamed => "the name of an entry is not UTF-8",
+            ListFault::LongPath => "the path is too long",
+            ListFault::LongRules => "the rule file is too long",
+        };
+        self.print(name, why, err)
+    }
+}
+
+/// Why a path cannot be read.
+fn reason(fault: TreeFault) -> &'static str {
+    match fault {
+        TreeFault::Missing => "no such file",
+        TreeFault::Denied => "permission denied",
+        _ => "cannot be read",
+    }
+}
+
+/// The exit status: 2 after an error, else 0 if a line is marked, else 1.
+pub(crate) fn status_of(wrong: bool, marked: bool) -> u8
+    ensures status { result ≡ status_by wrong marked }
+    ensures within { result ≤ 2 }
+{
+    if wrong {
+        2
+    } else if marked {
+        0
+    } else {
+        1
     }
 }

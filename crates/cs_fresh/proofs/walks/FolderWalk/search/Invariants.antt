@@ -1,0 +1,18 @@
+use Rattle.std.proofs.Common.{◌≡◌}
+use Rattle.cs_listing.specs.Walk.{walk_weight}
+use Rattle.cs_fresh.specs.Searched.{KeepsForm, ShowsItems}
+use Rattle.cs_fresh.proofs.WalkedLemmas.{HasTaken}
+use Rattle.cs_fresh.proofs.walks.FolderWalk.search.Given as goal
+
+-- some files were searched
+abbrev pub invariant-files : goal.invariant-files
+invariant-files g l = record {
+  kept : g.T.Tree.snapshot l.tree ≡ g.T.Tree.snapshot l.fn.tree;
+  form : l.self.form ≡ l.fn.self.form;
+  same : KeepsForm l.fn.search l.search;
+  taken : HasTaken (g.T.Tree.snapshot l.fn.tree) l.fn.self l.self
+      (λ named. ShowsItems l.fn.search l.search named (g.O.Output.given l.fn.out) (g.O.Output.given l.out));
+}
+
+abbrev pub decreases-files : goal.decreases-files
+decreases-files g l = walk_weight l.self.walk

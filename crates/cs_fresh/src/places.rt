@@ -1,0 +1,230 @@
+// What the words of a command line name: folders and files.
+ghost use Rattle.std.specs.Prelude.{◌≡◌, ◌++◌, false, string_bytes, IfOk, OnOk};
+ghost use Rattle.cs_tree.specs.Snapshot.{other};
+ghost use Rattle.cs_listing.specs.FolderReads.{InTree};
+ghost use Rattle.cs_listing.specs.Models.{chosen_in};
+ghost use Rattle.cs_fresh.specs.Scopes.{AreFilesBelow, AreNamed, ForItems, names_folder, operand};
+ghost use Rattle.cs_fresh.specs.Searched.{KeepsForm, ShowsItems, names_printed};
+ghost use Rattle.cs_fresh.specs.Walked.{IsKindAt, IsWordPath, KeepsListing, WalksFolder};
+
+use crate::fault::FreshFault;
+use crate::file_search::FileSearch;
+use crate::names::NameForm;
+use crate::scope::Scope;
+use crate::walks::{FolderWalk, NameListing, print_name};
+use cs_listing::laws::gives_in_order;
+use cs_listing::{Walk, path_names};
+use cs_output::Output;
+use cs_tree::{Kind, Look, PathFault, Sink, TreeFault, clean};
+use std::alloc::{AllocError, Global};
+
+/// A folder: its path, and the word that names it, which is empty for the current folder.
+#[derive(Clone, Copy, Drop)]
+pub(crate) struct NamedFolder<'n> {
+    pub(crate) path: &'n str,
+    pub(crate) word: &'n str,
+}
+
+/// What is at a path.
+#[derive(Clone, Copy, Drop)]
+pub(crate) enum PathKind {
+    Folder,
+    /// Anything else that is there.
+    File,
+    Unread(TreeFault),
+}
+
+/// The path of a word, and what is there.
+#[derive(Drop)]
+pub(crate) struct WordPath {
+    pub(crate) path: String,
+    pub(crate) kind: PathKind,
+}
+
+/// What is at a path. A link to a folder is followed.
+fn kind_at<T: Look>(alloc: Global, tree: &mut T, path: &str) -> Result<PathKind, AllocError>
+    ensures kind { IfOk result (λ kind. InTree (T.snapshot tree.old)
+        (λ items. IsKindAt items path.now kind)) }
+    ensures keeps { T.snapshot tree.new ≡ T.snapshot tree.old }
+{
+    match tree.kind(path) {
+        Ok(Kind::Folder) => Ok(PathKind::Folder),
+        Ok(Kind::File) => Ok(PathKind::File),
+        Ok(Kind::Other) => linked_kind(alloc, tree, path),
+        Err(TreeFault::Memory) => Err(AllocError),
+        Err(fault) => Ok(PathKind::Unread(fault)),
+    }
+}
+
+/// What a link leads to, or what else is at a path. The system follows a link to a folder where a
+/// slash stands after it.
+fn linked_kind<T: Look>(alloc: Global, tree: &mut T, path: &str) -> Result<PathKind, AllocError>
+    ensures kind { IfOk result (λ kind. InTree (T.snapshot tree.old)
+        (λ items. items path.now ≡ other → IsKindAt items path.now kind)) }
+    ensures keeps { T.snapshot tree.new ≡ T.snapshot tree.old }
+{
+    let mut entered = String::from_str(alloc, path)?;
+    entered.push('/')?;
+    match tree.kind(entered.as_str()) {
+        Ok(Kind::Folder) => Ok(PathKind::Folder),
+        Err(TreeFault::Memory) => Err(AllocError),
+        _ => Ok(PathKind::File),
+    }
+}
+
+/// The path that a word stands for: `-` is the standard input.
+fn operand(word: &str) -> &str
+    ensures { result.now ≡ operand word.now }
+{
+    if word == "-" { "/dev/stdin" } else { word }
+}
+
+impl<'a> Scope<'a> {
+    /// What a word names.
+    fn named<T: Look>(&self, tree: &mut T, word: &str) -> Result<WordPath, AllocError>
+        ensures named { IfOk result (λ named. InTree (T.snapshot tree.old)
+            (λ items. IsWordPath items self.now.folder.now word.now
+            (string_bytes named.path) named.kind)) }
+        ensures keeps { T.snapshot tree.new ≡ T.snapshot tree.old }
+    {
+        match clean(self.alloc, self.folder, operand(word)) {
+            Ok(path) => {
+                let kind = kind_at(self.alloc, tree, path.as_str())?;
+                Ok(WordPath { path, kind })
+            }
+            Err(PathFault::Memory) => Err(AllocError),
+            Err(_) => Ok(WordPath {
+                path: String::new(self.alloc),
+                kind: PathKind::Unread(TreeFault::Missing),
+            }),
+        }
+    }
+
+    /// Whether a word names a folder.
+    pub(crate) fn is_folder<T: Look>(&self, tree: &mut T, word: &str) -> Result<bool, AllocError>
+        ensures folder { IfOk result (λ folder. InTree (T.snapshot tree.old)
+            (λ items. folder ≡ names_folder items self.now.folder.now word.now)) }
+        ensures keeps { T.snapshot tree.new ≡ T.snapshot tree.old }
+    {
+        let named = self.named(tree, word)?;
+        match named.kind {
+            PathKind::Folder => Ok(true),
+            PathKind::File | PathKind::Unread(_) => Ok(false),
+        }
+    }
+
+    /// The walk of a folder that a word names.
+    fn walk<T: Look>(
+        &self,
+        tree: &mut T,
+        folder: NamedFolder<'_>,
+    ) -> Result<FolderWalk<'a>, AllocError>
+        ensures walks { IfOk result (WalksFolder (T.snapshot tree.old) (chosen_in self.now.choices.now)
+            folder.entry.path.now folder.entry.word.now) }
+        ensures keeps { T.snapshot tree.new ≡ T.snapshot tree.old }
+    {
+        let start = path_names(self.alloc, folder.path)?;
+        let walk = Walk::begin(self.alloc, tree, self.choices, &start)?;
+        let form = NameForm::new(self.alloc, folder.path, folder.word)?;
+        Ok(FolderWalk {
+            alloc: self.alloc,
+            walk,
+            form,
+        })
+    }
+
+    /// Searches the files below a folder.
+    pub(crate) fn search_folder<T: Look, O: Output, E: Sink>(
+        &self,
+        search: &mut FileSearch<'_>,
+        folder: NamedFolder<'_>,
+        tree: &mut T,
+        out: &mut O,
+        err: &mut E,
+    ) -> Result<(), FreshFault>
+        ensures searched { OnOk result (InTree (T.snapshot tree.old)
+            (λ items. ForItems (AreFilesBelow items (chosen_in self.now.choices.now)
+            folder.entry.path.now folder.entry.word.now)
+            (λ named. ShowsItems search.old search.new named (O.given out.old) (O.given out.new)))) }
+        ensures same { KeepsForm search.old search.new }
+        ensures keeps { T.snapshot tree.new ≡ T.snapshot tree.old }
+    {
+        // What a walk gives is what a search of the folder lists.
+        gives_in_order();
+        let mut walk = self.walk(tree, folder)?;
+        walk.search(search, tree, out, err)
+    }
+
+    /// Searches what a word names.
+    pub(crate) fn search_word<T: Look, O: Output, E: Sink>(
+        &self,
+        search: &mut FileSearch<'_>,
+        word: &str,
+        tree: &mut T,
+        out: &mut O,
+        err: &mut E,
+    ) -> Result<(), FreshFault>
+        ensures searched { OnOk result (search.new.reports.wrong ≡ false → InTree (T.snapshot tree.old)
+            (λ items. ForItems (AreNamed items (chosen_in self.now.choices.now) self.now.folder.now word.now)
+            (λ named. ShowsItems search.old search.new named (O.given out.old) (O.given out.new)))) }
+        ensures same { KeepsForm search.old search.new }
+        ensures keeps { T.snapshot tree.new ≡ T.snapshot tree.old }
+    {
+        let named = self.named(tree, word)?;
+        match named.kind {
+            PathKind::Folder => {
+                let path = named.path.as_str();
+                self.search_folder(search, NamedFolder { path, word }, tree, out, err)
+            }
+            PathKind::File => search.show_file(tree, named.path.as_str(), word, out, err),
+            PathKind::Unread(fault) => search.reports.unnamed(word, fault, err),
+        }
+    }
+
+    /// Prints the names of the files below a folder.
+    pub(crate) fn list_folder<T: Look, O: Output, E: Sink>(
+        &self,
+        listing: &mut NameListing<'_>,
+        folder: NamedFolder<'_>,
+        tree: &mut T,
+        out: &mut O,
+        err: &mut E,
+    ) -> Result<(), FreshFault>
+        ensures listed { OnOk result (InTree (T.snapshot tree.old)
+            (λ items. ForItems (AreFilesBelow items (chosen_in self.now.choices.now)
+            folder.entry.path.now folder.entry.word.now)
+            (λ named. O.given out.new ≡ O.given out.old ++ names_printed listing.old.end.now named))) }
+        ensures same { KeepsListing listing.old listing.new }
+        ensures keeps { T.snapshot tree.new ≡ T.snapshot tree.old }
+    {
+        gives_in_order();
+        let mut walk = self.walk(tree, folder)?;
+        walk.list(listing, tree, out, err)
+    }
+
+    /// Prints the names of the files that a word names.
+    pub(crate) fn list_word<T: Look, O: Output, E: Sink>(
+        &self,
+        listing: &mut NameListing<'_>,
+        word: &str,
+        tree: &mut T,
+        out: &mut O,
+        err: &mut E,
+    ) -> Result<(), FreshFault>
+        ensures listed { OnOk result (listing.new.reports.wrong ≡ false → InTree (T.snapshot tree.old)
+            (λ items. ForItems (AreNamed items (chosen_in self.now.choices.now) self.now.folder.now word.now)
+            (λ named. O.given out.new ≡ O.given out.old ++ names_printed listing.old.end.now named))) }
+        ensures same { KeepsListing listing.old listing.new }
+        ensures keeps { T.snapshot tree.new ≡ T.snapshot tree.old }
+    {
+        let named = self.named(tree, word)?;
+        match named.kind {
+            PathKind::Folder => {
+                let path = named.path.as_str();
+                self.list_folder(listing, NamedFolder { path, word }, tree, out, err)
+            }
+            PathKind::File => Ok(print_name(word, listing.end, out)?),
+            PathKind::Unread(fault) => listing.reports.unnamed(word, fault, err),
+        }
+    }
+}

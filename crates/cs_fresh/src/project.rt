@@ -1,0 +1,166 @@
+// The search of a project, and the listing of its files.
+ghost use Rattle.std.specs.Prelude.{◌≡◌, ◌++◌, ◌≤◌, [], false, true, IfOk, OnOk};
+ghost use Rattle.cs_tree.specs.PathParts.{texts};
+ghost use Rattle.cs_listing.specs.FolderReads.{InTree};
+ghost use Rattle.cs_listing.specs.Models.{chosen_in};
+ghost use Rattle.cs_fresh.specs.Scopes.{AreAllNamed, AreItemsOf, ForItems, are_several};
+ghost use Rattle.cs_fresh.specs.Searched.{KeepsForm, ShowsItems, names_printed};
+ghost use Rattle.cs_fresh.specs.Walked.{KeepsListing};
+ghost use Rattle.cs_fresh.specs.Projects.{SearchesProject, ListsProject};
+
+use crate::fault::FreshFault;
+use crate::file_search::FileSearch;
+use crate::places::NamedFolder;
+use crate::reports::{Reports, status_of};
+use crate::scope::Scope;
+use crate::walks::NameListing;
+use cs_output::Output;
+use cs_tree::{Look, Sink};
+use std::alloc::AllocError;
+
+/// Searches the items of a scope, and returns the exit status: 2 after an error, or if not all
+/// matches of a line were found; else 0 if a line is marked, or else 1.
+pub fn search_project<T: Look, O: Output, E: Sink>(
+    scope: &Scope<'_>,
+    mut search: FileSearch<'_>,
+    tree: &mut T,
+    out: &mut O,
+    err: &mut E,
+) -> Result<u8, FreshFault>
+    ensures searched { IfOk result (λ status. InTree (T.snapshot tree.old)
+        (λ items. SearchesProject items scope.now search.entry (O.given out.old) (O.given out.new) status)) }
+    ensures status { IfOk result (λ status. status ≤ 2) }
+    ensures keeps { T.snapshot tree.new ≡ T.snapshot tree.old }
+{
+    scope.search(&mut search, tree, out, err)?;
+    search.status(err)
+}
+
+/// Prints the names of the items of a scope, each with what ends it, and returns the exit status: 2
+/// after an error, or else 0.
+pub fn list_project<T: Look, O: Output, E: Sink>(
+    scope: &Scope<'_>,
+    end: &[u8],
+    tree: &mut T,
+    out: &mut O,
+    err: &mut E,
+) -> Result<u8, FreshFault>
+    ensures listed { IfOk result (λ status. InTree (T.snapshot tree.old)
+        (λ items. ListsProject items scope.now end.now (O.given out.old) (O.given out.new) status)) }
+    ensures status { IfOk result (λ status. status ≤ 2) }
+    ensures keeps { T.snapshot tree.new ≡ T.snapshot tree.old }
+{
+    let mut listing = NameListing {
+        end,
+        reports: Reports::new(scope.alloc),
+    };
+    scope.list(&mut listing, tree, out, err)?;
+    Ok(status_of(listing.reports.wrong, true))
+}
+
+impl<'a> Scope<'a> {
+    /// The current folder.
+    fn here(&self) -> NamedFolder<'a>
+        ensures path { result.path.now ≡ self.now.folder.now }
+        ensures word { result.word.now ≡ [] }
+    {
+        NamedFolder {
+            path: self.folder,
+            word: "",
+        }
+    }
+
+    /// Whether more than one file may be searched.
+    pub fn is_of_several<T: Look>(&self, tree: &mut T) -> Result<bool, AllocError>
+        ensures several { IfOk result (λ several. InTree (T.snapshot tree.old)
+            (λ items. several ≡ are_several items self.now.folder.now (texts self.now.words.now))) }
+        ensures keeps { T.snapshot tree.new ≡ T.snapshot tree.old }
+    {
+        match self.words {
+            [word] => self.is_folder(tree, word),
+            _ => Ok(true),
+        }
+    }
+
+    /// Searches the items one after another.
+    fn search<T: Look, O: Output, E: Sink>(
+        &self,
+        search: &mut FileSearch<'_>,
+        tree: &mut T,
+        out: &mut O,
+        err: &mut E,
+    ) -> Result<(), FreshFault>
+        ensures searched { OnOk result (search.new.reports.wrong ≡ false → InTree (T.snapshot tree.old)
+            (λ items. ForItems (AreItemsOf items self.now)
+            (λ named. ShowsItems search.old search.new named (O.given out.old) (O.given out.new)))) }
+        ensures same { KeepsForm search.old search.new }
+        ensures keeps { T.snapshot tree.new ≡ T.snapshot tree.old }
+    {
+        if self.words.is_empty() {
+            return self.search_folder(search, self.here(), tree, out, err);
+        }
+        self.search_words(search, tree, out, err)
+    }
+
+    /// Searches what the words name.
+    fn search_words<T: Look, O: Output, E: Sink>(
+        &self,
+        search: &mut FileSearch<'_>,
+        tree: &mut T,
+        out: &mut O,
+        err: &mut E,
+    ) -> Result<(), FreshFault>
+        ensures searched { OnOk result (search.new.reports.wrong ≡ false → InTree (T.snapshot tree.old)
+            (λ items. ForItems (AreAllNamed items (chosen_in self.now.choices.now) self.now.folder.now
+            (texts self.now.words.now))
+            (λ named. ShowsItems search.old search.new named (O.given out.old) (O.given out.new)))) }
+        ensures same { KeepsForm search.old search.new }
+        ensures keeps { T.snapshot tree.new ≡ T.snapshot tree.old }
+    {
+        'words: for word in self.words {
+            self.search_word(search, word, tree, out, err)?;
+        }
+        Ok(())
+    }
+
+    /// Prints the names of the items one after another.
+    fn list<T: Look, O: Output, E: Sink>(
+        &self,
+        listing: &mut NameListing<'_>,
+        tree: &mut T,
+        out: &mut O,
+        err: &mut E,
+    ) -> Result<(), FreshFault>
+        ensures listed { OnOk result (listing.new.reports.wrong ≡ false → InTree (T.snapshot tree.old)
+            (λ items. ForItems (AreItemsOf items self.now)
+            (λ named. O.given out.new ≡ O.given out.old ++ names_printed listing.old.end.now named))) }
+        ensures same { KeepsListing listing.old listing.new }
+        ensures keeps { T.snapshot tree.new ≡ T.snapshot tree.old }
+    {
+        if self.words.is_empty() {
+            return self.list_folder(listing, self.here(), tree, out, err);
+        }
+        self.list_words(listing, tree, out, err)
+    }
+
+    /// Prints the names of what the words name.
+    fn list_words<T: Look, O: Output, E: Sink>(
+        &self,
+        listing: &mut NameListing<'_>,
+        tree: &mut T,
+        out: &mut O,
+        err: &mut E,
+    ) -> Result<(), FreshFault>
+        ensures listed { OnOk result (listing.new.reports.wrong ≡ false → InTree (T.snapshot tree.old)
+            (λ items. ForItems (AreAllNamed items (chosen_in self.now.choices.now) self.now.folder.now
+            (texts self.now.words.now))
+            (λ named. O.given out.new ≡ O.given out.old ++ names_printed listing.old.end.now named))) }
+        ensures same { KeepsListing listing.old listing.new }
+        ensures keeps { T.snapshot tree.new ≡ T.snapshot tree.old }
+    {
+        'words: for word in self.words {
+            self.list_word(listing, word, tree, out, err)?;
+        }
+        Ok(())
+    }
+}

@@ -1,7 +1,6 @@
 -- Definitions that the contracts of the functions that `main` calls cite.
 pub mod Program
 pub mod Execution
-pub mod Project
 -- Definitions that the contracts of other functions cite.
 pub mod Running
 pub mod Opened

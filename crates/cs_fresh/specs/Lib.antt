@@ -1,4 +1,5 @@
 -- Definitions that public contracts cite.
+pub mod Calls
 pub mod Handed
 pub mod Names
 pub mod Projects

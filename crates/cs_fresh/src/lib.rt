@@ -15,8 +15,10 @@
 //! The crate is apart from cs_project and cs_listing since it is the first one above both.
 #![tactic(auto)]
 
+mod call;
 mod fault;
 mod file_search;
+mod first_output;
 pub mod laws;
 mod names;
 mod places;
@@ -26,6 +28,7 @@ mod scope;
 mod sink_output;
 mod walks;
 
+pub use call::{ProjectCall, UserFolders, run_project};
 pub use fault::FreshFault;
 pub use file_search::FileSearch;
 pub use project::{list_project, search_project};

@@ -4,7 +4,7 @@ ghost use Rattle.cs_project.specs.Project.{status_by};
 ghost use Rattle.cs_fresh.specs.Reports.{MayReport};
 
 use crate::fault::FreshFault;
-use cs_listing::ListFault;
+use cs_listing::{ListFault, Unread};
 use cs_tree::{Sink, TreeFault, write_all};
 use std::alloc::Global;
 
@@ -111,4 +111,18 @@ pub(crate) fn status_of(wrong: bool, marked: bool) -> u8
     } else {
         1
     }
+}
+
+/// Prints a line for each path that could not be read. Returns whether there is one.
+pub(crate) fn print_unread<E: Sink>(
+    alloc: Global,
+    unread: &[Unread],
+    err: &mut E,
+) -> Result<bool, FreshFault>
+{
+    let mut reports = Reports::new(alloc);
+    'unread: for one in unread {
+        reports.unlisted(one.path.as_str(), one.fault, err)?;
+    }
+    Ok(reports.wrong)
 }

@@ -1,14 +1,18 @@
-// The tool `cs`: a search of a project as it is now.
+// What the arguments of `cs` ask for is done.
 ghost use Rattle.std.specs.Prelude.{◌≡◌, ◌≢◌, [], map, string_bytes, IfOk};
 ghost use Rattle.cs_tree.specs.Cover.{is_absolute};
 ghost use Rattle.cs_tree.specs.PathParts.{texts};
 ghost use Rattle.cs_listing.specs.FolderReads.{InTree};
 ghost use Rattle.cs_listing.specs.Models.{chosen_in};
-ghost use Rattle.codesearch.specs.Project.{AnswersRequest, DoesProject, HasBase, ListsFor, SearchesFor, searched, words_at};
+ghost use Rattle.cs_fresh.specs.Calls.{AnswersRequest, DoesProject, HasBase, ListsFor, SearchesFor, searched, words_at};
 
+use crate::fault::FreshFault;
+use crate::file_search::FileSearch;
 use crate::first_output::FirstOutput;
+use crate::project::{list_project, search_project};
+use crate::reports::print_unread;
+use crate::scope::Scope;
 use cs_command::{HELP, Request, RequestFault, fault_line, read_request};
-use cs_fresh::{FileSearch, FreshFault, Scope, list_project, print_unread, search_project};
 use cs_listing::{Choices, Rules, TYPES, path_names, user_rules};
 use cs_match::Program;
 use cs_output::Output;
@@ -21,22 +25,22 @@ const VERSION: &[u8] = b"cs 0.9.0\n";
 
 /// Where the settings of a user are: the home folder, and the folder of settings.
 #[derive(Clone, Copy, Drop)]
-pub(crate) struct UserFolders<'a> {
-    pub(crate) home: &'a str,
-    pub(crate) config: &'a str,
+pub struct UserFolders<'a> {
+    pub home: &'a str,
+    pub config: &'a str,
 }
 
 /// A call of `cs`, and what it finds around it.
 #[derive(Clone, Copy, Drop)]
-pub(crate) struct ProjectCall<'a> {
-    pub(crate) alloc: Global,
+pub struct ProjectCall<'a> {
+    pub alloc: Global,
     /// The arguments after the name of the tool.
-    pub(crate) words: &'a [String],
+    pub words: &'a [String],
     /// The current folder.
-    pub(crate) folder: &'a str,
-    pub(crate) user: Option<UserFolders<'a>>,
+    pub folder: &'a str,
+    pub user: Option<UserFolders<'a>>,
     /// Standard output is a terminal.
-    pub(crate) terminal: bool,
+    pub terminal: bool,
     ghost absolute: { is_absolute folder.now ≡ true },
 }
 
@@ -50,7 +54,7 @@ struct Base {
 
 /// Does what the arguments of `cs` ask for, and returns the exit status: 2 after an error, else 0
 /// if a line is marked, else 1.
-pub(crate) fn run_project<T: Look, O: Output, E: Sink>(
+pub fn run_project<T: Look, O: Output, E: Sink>(
     call: &ProjectCall<'_>,
     tree: &mut T,
     out: &mut O,

@@ -18,8 +18,8 @@ use Rattle.cs_fresh.specs.Projects.{SearchesProject, ListsProject}
 use Rattle.cs_fresh.specs.Scopes.{are_several}
 use Rattle.cs_fresh.specs.declared.file_search.FileSearch.{FileSearch}
 use Rattle.cs_fresh.specs.declared.scope.Scope.{Scope}
-use Rattle.codesearch.specs.declared.project.ProjectCall.{ProjectCall}
-use Rattle.codesearch.specs.declared.project.UserFolders.{UserFolders}
+use Rattle.cs_fresh.specs.declared.call.ProjectCall.{ProjectCall}
+use Rattle.cs_fresh.specs.declared.call.UserFolders.{UserFolders}
 
 -- the rules of the user for all repositories
 abbrev pub rules_of_user : TreeItems → Option UserFolders → List Rule

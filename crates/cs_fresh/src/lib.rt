@@ -24,10 +24,11 @@ mod project;
 mod reports;
 mod scope;
 mod sink_output;
+mod unprinted;
 mod walks;
 
 pub use fault::FreshFault;
 pub use file_search::FileSearch;
-pub use project::{list_project, search_project};
+pub use project::{find_in_project, list_project, search_project};
 pub use scope::Scope;
 pub use sink_output::SinkOutput;

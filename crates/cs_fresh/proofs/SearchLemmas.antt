@@ -33,7 +33,8 @@ form_again a b c p q = (
   q.1 ∙ p.1,
   ((q.2).0 ∙ (p.2).0, (q.2).1 ∙ (p.2).1, (q.2).2 ∙ (p.2).2, λ none. (p.2).3 ((q.2).3 none)),
   λ right. p.3 (q.3 right),
+  q.4 ∙ p.4,
 )
 
 pub form_itself : (a : FileSearch) → KeepsForm a a
-form_itself a = (refl, refl, (refl, refl, refl, λ none. none), λ right. right)
+form_itself a = (refl, refl, (refl, refl, refl, λ none. none), λ right. right, refl)

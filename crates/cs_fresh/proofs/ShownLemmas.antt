@@ -17,13 +17,14 @@ with_reports search reports = record {
   binary = search.binary;
   search = search.search;
   window = search.window;
+  quick = search.quick;
   marked = search.marked;
   reports = reports;
 }
 
 pub form_reported : (search : FileSearch) (reports : Reports) → (reports.wrong ≡ false → search.reports.wrong ≡ false) →
     KeepsForm search (with_reports search reports)
-form_reported search reports stays = (refl, refl, (refl, refl, refl, λ running. running), stays)
+form_reported search reports stays = (refl, refl, (refl, refl, refl, λ running. running), stays, refl)
 
 pub shows_reported : (old now : FileSearch) (reports : Reports) (named : List NamedItem) (given later : List ℕ) →
     (reports.wrong ≡ false → now.reports.wrong ≡ false) → ShowsItems old now named given later →

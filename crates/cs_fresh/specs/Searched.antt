@@ -1,5 +1,5 @@
 -- What a search prints for items one after another.
-use Rattle.std.specs.Prelude.{ℕ, ◌≡◌, Bool, false, ◌||◌, List, [], ◌∷◌, ◌++◌}
+use Rattle.std.specs.Prelude.{ℕ, ◌≡◌, Bool, false, ◌&&◌, ◌||◌, List, [], ◌∷◌, ◌++◌}
 use Rattle.std.specs.List.{flat_map}
 use Rattle.cs_tree.specs.Snapshot.{Item, folder, file, cut, other, bad}
 use Rattle.cs_project.specs.Findings.{Finding, IsFoundBy, KeepsSearch}
@@ -46,10 +46,18 @@ abbrev pub ShowsItems : FileSearch → FileSearch → List NamedItem → List �
 ShowsItems old new items given later =
     new.reports.wrong ≡ false → new.search.stopped ≡ false → PrintsItems old new items given later
 
+-- The search ends at the first marked line, and has come to one.
+abbrev pub is_done : FileSearch → Bool
+is_done search = search.quick && search.marked
+
+-- All was searched, and no error was reported.
+abbrev pub IsWhole : FileSearch → Type 0
+IsWhole search = (search.reports.wrong ≡ false) × (is_done search ≡ false)
+
 -- The search is for the same, in the same form, and an error that was reported stays reported.
 abbrev pub KeepsForm : FileSearch → FileSearch → Type 0
 KeepsForm old new = (new.options ≡ old.options) × (new.binary ≡ old.binary) × KeepsSearch old.search new.search
-    × (new.reports.wrong ≡ false → old.reports.wrong ≡ false)
+    × (new.reports.wrong ≡ false → old.reports.wrong ≡ false) × (new.quick ≡ old.quick)
 
 -- the names of items, each with what ends it
 abbrev pub names_printed : List ℕ → List NamedItem → List ℕ

@@ -1,7 +1,7 @@
 // The search of one file after another.
 ghost use Rattle.std.specs.Prelude.{◌≡◌, ◌≤◌, ◌∷◌, ◌||◌, [], false, IfOk, OnOk};
 ghost use Rattle.cs_listing.specs.FolderReads.{InTree};
-ghost use Rattle.cs_fresh.specs.Searched.{KeepsForm, ShowsItems};
+ghost use Rattle.cs_fresh.specs.Searched.{KeepsForm, ShowsItems, is_done};
 ghost use Rattle.cs_fresh.specs.Sources.{IsStatusOf, ShowsSource};
 
 use crate::fault::FreshFault;
@@ -19,6 +19,8 @@ pub struct FileSearch<'p> {
     pub(crate) binary: bool,
     pub(crate) search: Search<'p>,
     window: Window,
+    /// The search ends at the first marked line.
+    pub(crate) quick: bool,
     /// A line of a file was marked.
     pub(crate) marked: bool,
     pub(crate) reports: Reports,
@@ -44,6 +46,7 @@ impl<'p> FileSearch<'p> {
             binary,
             search,
             window,
+            quick: false,
             marked: false,
             reports: Reports::new(alloc),
         })
@@ -108,6 +111,13 @@ impl<'p> FileSearch<'p> {
             }
             Err(fault) => self.reports.unopened(name, fault, err),
         }
+    }
+
+    /// Whether the search ends here.
+    pub(crate) fn is_done(&self) -> bool
+        ensures { result ≡ is_done self.now }
+    {
+        self.quick && self.marked
     }
 
     /// The exit status, after a line of an error if not all matches of a line were found.

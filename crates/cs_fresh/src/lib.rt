@@ -26,11 +26,12 @@ mod project;
 mod reports;
 mod scope;
 mod sink_output;
+mod unprinted;
 mod walks;
 
 pub use call::{ProjectCall, UserFolders, run_project};
 pub use fault::FreshFault;
 pub use file_search::FileSearch;
-pub use project::{list_project, search_project};
+pub use project::{find_in_project, list_project, search_project};
 pub use scope::Scope;
 pub use sink_output::SinkOutput;

@@ -39,6 +39,15 @@ impl NameForm {
             None => String::from_str(alloc, path),
         }
     }
+
+    /// The name of the folder, or of a path below it, in the line of an error.
+    pub(crate) fn error_name(&self, alloc: Global, path: &str) -> Result<String, AllocError> {
+        if self.stem.as_str().strip_suffix('/') == Some(path) {
+            let word = self.prefix.as_str().strip_suffix('/');
+            return String::from_str(alloc, word.unwrap_or("."));
+        }
+        self.name(alloc, path)
+    }
 }
 
 /// What stands for a folder in the names below it.

@@ -4,7 +4,7 @@ ghost use Rattle.cs_tree.specs.Snapshot.{other};
 ghost use Rattle.cs_listing.specs.FolderReads.{InTree};
 ghost use Rattle.cs_listing.specs.Models.{chosen_in};
 ghost use Rattle.cs_fresh.specs.Scopes.{AreFilesBelow, AreNamed, ForItems, names_folder, operand};
-ghost use Rattle.cs_fresh.specs.Searched.{KeepsForm, ShowsItems, names_printed};
+ghost use Rattle.cs_fresh.specs.Searched.{IsWhole, KeepsForm, ShowsItems, is_done, names_printed};
 ghost use Rattle.cs_fresh.specs.Walked.{IsKindAt, IsWordPath, KeepsListing, WalksFolder};
 
 use crate::fault::FreshFault;
@@ -142,7 +142,7 @@ impl<'a> Scope<'a> {
         out: &mut O,
         err: &mut E,
     ) -> Result<(), FreshFault>
-        ensures searched { OnOk result (InTree (T.snapshot tree.old)
+        ensures searched { OnOk result (is_done search.new ≡ false → InTree (T.snapshot tree.old)
             (λ items. ForItems (AreFilesBelow items (chosen_in self.now.choices.now)
             folder.entry.path.now folder.entry.word.now)
             (λ named. ShowsItems search.old search.new named (O.given out.old) (O.given out.new)))) }
@@ -164,7 +164,7 @@ impl<'a> Scope<'a> {
         out: &mut O,
         err: &mut E,
     ) -> Result<(), FreshFault>
-        ensures searched { OnOk result (search.new.reports.wrong ≡ false → InTree (T.snapshot tree.old)
+        ensures searched { OnOk result (IsWhole search.new → InTree (T.snapshot tree.old)
             (λ items. ForItems (AreNamed items (chosen_in self.now.choices.now) self.now.folder.now word.now)
             (λ named. ShowsItems search.old search.new named (O.given out.old) (O.given out.new)))) }
         ensures same { KeepsForm search.old search.new }

@@ -4,17 +4,19 @@ ghost use Rattle.cs_tree.specs.PathParts.{texts};
 ghost use Rattle.cs_listing.specs.FolderReads.{InTree};
 ghost use Rattle.cs_listing.specs.Models.{chosen_in};
 ghost use Rattle.cs_fresh.specs.Scopes.{AreAllNamed, AreItemsOf, ForItems, are_several};
-ghost use Rattle.cs_fresh.specs.Searched.{KeepsForm, ShowsItems, names_printed};
+ghost use Rattle.cs_fresh.specs.Searched.{IsWhole, KeepsForm, ShowsItems, names_printed};
 ghost use Rattle.cs_fresh.specs.Walked.{KeepsListing};
-ghost use Rattle.cs_fresh.specs.Projects.{SearchesProject, ListsProject};
+ghost use Rattle.cs_fresh.specs.Projects.{FindsNone, ListsProject, SearchesProject};
 
 use crate::fault::FreshFault;
 use crate::file_search::FileSearch;
 use crate::places::NamedFolder;
 use crate::reports::{Reports, status_of};
 use crate::scope::Scope;
+use crate::unprinted::Unprinted;
 use crate::walks::NameListing;
 use cs_output::Output;
+use cs_project::{Mode, ShowOptions};
 use cs_tree::{Look, Sink};
 use std::alloc::AllocError;
 
@@ -32,7 +34,31 @@ pub fn search_project<T: Look, O: Output, E: Sink>(
     ensures status { IfOk result (λ status. status ≤ 2) }
     ensures keeps { T.snapshot tree.new ≡ T.snapshot tree.old }
 {
+    search.quick = false;
     scope.search(&mut search, tree, out, err)?;
+    search.status(err)
+}
+
+/// Searches the items of a scope up to the first marked line, prints only errors, and returns the
+/// exit status: 0 if a line is marked, even after an error; else 2 after an error, or else 1.
+pub fn find_in_project<T: Look, E: Sink>(
+    scope: &Scope<'_>,
+    mut search: FileSearch<'_>,
+    tree: &mut T,
+    err: &mut E,
+) -> Result<u8, FreshFault>
+    ensures none { IfOk result (λ status. InTree (T.snapshot tree.old)
+        (λ items. FindsNone items scope.now search.entry status)) }
+    ensures status { IfOk result (λ status. status ≤ 2) }
+    ensures keeps { T.snapshot tree.new ≡ T.snapshot tree.old }
+{
+    search.quick = true;
+    search.options = for_names(search.options);
+    let mut out = Unprinted::new();
+    scope.search(&mut search, tree, &mut out, err)?;
+    if search.marked {
+        return Ok(0);
+    }
     search.status(err)
 }
 
@@ -56,6 +82,20 @@ pub fn list_project<T: Look, O: Output, E: Sink>(
     };
     scope.list(&mut listing, tree, out, err)?;
     Ok(status_of(listing.reports.wrong, true))
+}
+
+/// The options with which a text is read only up to its first marked line.
+fn for_names(options: ShowOptions) -> ShowOptions
+    ensures { result ≡ record options { mode = Mode.Names } }
+{
+    ShowOptions {
+        mode: Mode::Names,
+        most: options.most,
+        before: options.before,
+        after: options.after,
+        invert: options.invert,
+        form: options.form,
+    }
 }
 
 impl<'a> Scope<'a> {
@@ -90,7 +130,7 @@ impl<'a> Scope<'a> {
         out: &mut O,
         err: &mut E,
     ) -> Result<(), FreshFault>
-        ensures searched { OnOk result (search.new.reports.wrong ≡ false → InTree (T.snapshot tree.old)
+        ensures searched { OnOk result (IsWhole search.new → InTree (T.snapshot tree.old)
             (λ items. ForItems (AreItemsOf items self.now)
             (λ named. ShowsItems search.old search.new named (O.given out.old) (O.given out.new)))) }
         ensures same { KeepsForm search.old search.new }
@@ -110,7 +150,7 @@ impl<'a> Scope<'a> {
         out: &mut O,
         err: &mut E,
     ) -> Result<(), FreshFault>
-        ensures searched { OnOk result (search.new.reports.wrong ≡ false → InTree (T.snapshot tree.old)
+        ensures searched { OnOk result (IsWhole search.new → InTree (T.snapshot tree.old)
             (λ items. ForItems (AreAllNamed items (chosen_in self.now.choices.now) self.now.folder.now
             (texts self.now.words.now))
             (λ named. ShowsItems search.old search.new named (O.given out.old) (O.given out.new)))) }
@@ -119,6 +159,9 @@ impl<'a> Scope<'a> {
     {
         'words: for word in self.words {
             self.search_word(search, word, tree, out, err)?;
+            if search.is_done() {
+                return Ok(());
+            }
         }
         Ok(())
     }

@@ -2,7 +2,7 @@
 ghost use Rattle.std.specs.Prelude.{◌≡◌, ◌<◌, ◌++◌, false, IsSome, IfOk, OnOk};
 ghost use Rattle.cs_listing.specs.FolderReads.{InTree};
 ghost use Rattle.cs_listing.specs.Walk.{IsWalkIn, walk_weight};
-ghost use Rattle.cs_fresh.specs.Searched.{KeepsForm, ShowsItems, names_printed};
+ghost use Rattle.cs_fresh.specs.Searched.{KeepsForm, ShowsItems, is_done, names_printed};
 ghost use Rattle.cs_fresh.specs.Walked.{GivesFile, KeepsListing, TakesAll};
 
 use crate::fault::FreshFault;
@@ -63,7 +63,7 @@ impl FolderWalk<'_> {
                     }));
                 }
                 Found::Unread(unread) => {
-                    let name = self.form.name(self.alloc, unread.path.as_str())?;
+                    let name = self.form.error_name(self.alloc, unread.path.as_str())?;
                     reports.unlisted(name.as_str(), unread.fault, err)?;
                 }
             }
@@ -79,7 +79,7 @@ impl FolderWalk<'_> {
         out: &mut O,
         err: &mut E,
     ) -> Result<(), FreshFault>
-        ensures searched { OnOk result (InTree (T.snapshot tree.old)
+        ensures searched { OnOk result (is_done search.new ≡ false → InTree (T.snapshot tree.old)
             (λ items. IsWalkIn items self.old.walk → TakesAll items self.old
             (λ named. ShowsItems search.old search.new named (O.given out.old) (O.given out.new)))) }
         ensures same { KeepsForm search.old search.new }
@@ -87,6 +87,9 @@ impl FolderWalk<'_> {
     {
         'files: while let Some(file) = self.next(tree, &mut search.reports, err)? {
             search.show_file(tree, file.path.as_str(), file.name.as_str(), out, err)?;
+            if search.is_done() {
+                return Ok(());
+            }
         }
         Ok(())
     }

@@ -13,6 +13,7 @@ returns-in-Whole-clause-shown g c =
       binary = old.binary;
       search = c.print_file.new.search;
       window = c.print_file.new.window;
+      quick = old.quick;
       marked = c.either-self.result;
       reports = old.reports;
     } in

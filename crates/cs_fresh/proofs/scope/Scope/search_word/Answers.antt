@@ -21,11 +21,11 @@ returns-in-Folder-clause-searched g c =
     let later = g.O.Output.given c.search_folder.new.out in
     let new = c.search_folder.new.search in
     on_ok c.search_folder.result
-    (λ has right. folder_named tree now chosen scope.folder.now word path (λ named. ShowsItems c.args.search.now new named given later)
+    (λ has whole. folder_named tree now chosen scope.folder.now word path (λ named. ShowsItems c.args.search.now new named given later)
     c.in_ok-named.ensures.keeps
     (subst (λ kind. InTree tree (λ items. IsWordPath items scope.folder.now word path kind)) c.in-Folder.is c.in_ok-named.ensures.named)
     (subst (λ p. InTree now (λ items. ForItems (AreFilesBelow items chosen p word) (λ named. ShowsItems c.args.search.now new named given later)))
-    c.as_str-path.ensures.value has))
+    c.as_str-path.ensures.value (has whole.1)))
     c.search_folder.ensures.searched
 
 pub returns-in-File-clause-searched : goal.returns-in-File-clause-searched
@@ -39,7 +39,7 @@ returns-in-File-clause-searched g c =
     let later = g.O.Output.given c.show_file.new.out in
     let new = c.show_file.new.self in
     on_ok c.show_file.result
-    (λ has right. file_named tree now (chosen_in scope.choices.now) scope.folder.now word path
+    (λ has whole. file_named tree now (chosen_in scope.choices.now) scope.folder.now word path
     (λ named. ShowsItems c.args.search.now new named given later) c.in_ok-named.ensures.keeps
     (subst (λ kind. InTree tree (λ items. IsWordPath items scope.folder.now word path kind)) c.in-File.is c.in_ok-named.ensures.named)
     (subst (λ p. InTree now (λ items. ShowsItems c.args.search.now new ((word, items p) ∷ []) given later)) c.as_str.ensures.value has))

@@ -30,6 +30,6 @@ words-preserved g c =
           (named_more tree (g.T.Tree.snapshot c.words.tree) chosen scope.folder.now (texts (take at words))
           (get_or words at record { ref_ptr = (0, 0); now = [] }).now (λ named. ShowsItems old mid named given middle)
           (λ named. ShowsItems old new named given later) (λ named. ShowsItems mid new named middle later) c.words.invariant.kept
-          (c.words.invariant.named (keeps.3 right)) (c.in_ok-search_word.ensures.searched right)
+          (c.words.invariant.named (keeps.3 right)) (c.in_ok-search_word.ensures.searched (right, sym c.is_done.ensures ∙ c.if-is_done.false))
           (λ all more had has. shows_more old mid new all more given middle later kept keeps had has));
     }

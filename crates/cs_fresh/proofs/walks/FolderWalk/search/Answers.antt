@@ -35,7 +35,7 @@ files-preserved g c =
     }
 
 pub returns-clause-searched : goal.returns-clause-searched
-returns-clause-searched g c =
+returns-clause-searched g c = λ going.
     let now = g.T.Tree.snapshot c.files.tree in
     let old = c.args.search.now in
     let reports = c.next.new.reports in

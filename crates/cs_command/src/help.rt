@@ -8,7 +8,8 @@ A file that a rule file (.gitignore, .ignore) leaves out is not searched.
 Patterns
   -e PATTERN      a pattern; if there are several, lines that match one of them
   -F              patterns are texts, not regular expressions
-  -i, -S, -s      letters match in either case; if no pattern has a capital letter; only in theirs
+  -i              letters match in either case
+  -S, -s          so if no pattern has a capital letter; letters match in their own case
   -w, -x          only matches that are whole words; that are whole lines
   -v              lines that do not match
 Output

@@ -27,3 +27,6 @@ pub mod WeightLemmas
 pub mod BeginLemmas
 pub mod WholeWalkLemmas
 pub mod SettingLemmas
+pub mod StarLemmas
+pub mod LastElementLemmas
+pub mod RuleKeyLemmas

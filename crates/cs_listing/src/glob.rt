@@ -1,6 +1,7 @@
 // Globs: what each element of a path has to match. After a mismatch only the last `*`, or the last
-// `**`, takes one more, so each token meets each byte at most once.
-ghost use Rattle.std.specs.Prelude.{◌≡◌, ◌+◌, ◌∷◌, length};
+// `**`, takes more, so each token meets each byte at most once. A `*` before a literal byte takes
+// all bytes up to the next one that is that byte.
+ghost use Rattle.std.specs.Prelude.{◌≡◌, ◌+◌, ◌≤◌, ◌∷◌, length};
 ghost use Rattle.cs_prefilter.specs.CountsAtMost.{CountsAtMost};
 ghost use Rattle.cs_listing.specs.MatchWork.{token_work, name_work, pair_work, path_work};
 ghost use Rattle.cs_listing.specs.Globs.{is_in_ranges as is_in_ranges', accepts_byte, matches_name as matches_name', matches_path as matches_path', star, folders};
@@ -8,6 +9,7 @@ ghost use Rattle.cs_listing.specs.Models.{token_of, tokens_of, glob_of, names};
 ghost use Rattle.cs_listing.specs.Matching.{NameStepSays, NameStepTakes, PathStepSays};
 
 use cs_prefilter::Steps;
+use memchr::memchr;
 use std::marker::Model;
 
 /// What a part of a name has to match.
@@ -140,12 +142,27 @@ fn matches_after_star(tokens: &[Token], name: &[u8], steps: &mut Steps) -> bool
                 let Some((_, more)) = from.split_first() else {
                     return false;
                 };
-                from = more;
+                from = from_first(after, more, steps);
                 left = after;
-                rest = more;
+                rest = from;
             }
         }
     }
+}
+
+/// The rest of a name from the first byte on that the first token may match.
+fn from_first<'n>(tokens: &[Token], name: &'n [u8], steps: &mut Steps) -> &'n [u8]
+    ensures matches { matches_name' (star ∷ tokens_of tokens.now) name.now
+        ≡ matches_name' (star ∷ tokens_of tokens.now) result.now }
+    ensures shorter { length result.now ≤ length name.now }
+    ensures work { steps.new.count + length result.now ≡ steps.old.count + length name.now }
+{
+    let Some((Token::Byte(byte), _)) = tokens.split_first() else {
+        return name;
+    };
+    let skipped = memchr(*byte, name).unwrap_or(name.len());
+    steps.add(skipped);
+    &name[skipped..]
 }
 
 /// What the first element of a glob and the first name of a path say, and what is left of the glob.
@@ -180,8 +197,24 @@ fn path_step<'g>(glob: &'g [Element], path: &[&[u8]], steps: &mut Steps) -> Path
     PathStep::Mismatch
 }
 
+/// Whether a glob matches the whole path. Few globs match the last name, so it is compared first.
+pub(crate) fn matches_glob(glob: &[Element], path: &[&[u8]], steps: &mut Steps) -> bool
+    ensures work { CountsAtMost (path_work (glob_of glob.now) (names path.now)) steps.old steps.new }
+    ensures matches { result ≡ matches_path' (glob_of glob.now) (names path.now) }
+{
+    if let Some((Element::One(tokens), elements)) = glob.split_last()
+        && let Some((name, above)) = path.split_last()
+    {
+        if !matches_name(tokens, name, steps) {
+            return false;
+        }
+        return matches_path(elements, above, steps);
+    }
+    matches_path(glob, path, steps)
+}
+
 /// Whether the elements of a glob match the whole path.
-pub(crate) fn matches_path(glob: &[Element], path: &[&[u8]], steps: &mut Steps) -> bool
+fn matches_path(glob: &[Element], path: &[&[u8]], steps: &mut Steps) -> bool
     ensures work { CountsAtMost (path_work (glob_of glob.now) (names path.now)) steps.old steps.new }
     ensures matches { result ≡ matches_path' (glob_of glob.now) (names path.now) }
 {

@@ -2,7 +2,8 @@ use Rattle.std.proofs.Common.{◌||◌, length, ap, ◌∙◌, arith}
 use Rattle.cs_listing.specs.MatchWork.{tokens_work}
 use Rattle.cs_listing.specs.Models.{tokens_of}
 use Rattle.cs_listing.proofs.NameLemmas.{matches_later, star_again, star_split, later_is_match}
-use Rattle.cs_listing.proofs.WorkLemmas.{paid_later, paid_again}
+use Rattle.cs_listing.proofs.WorkLemmas.{paid_later}
+use Rattle.cs_listing.proofs.StarLemmas.{paid_skip, falls_skip}
 use Rattle.cs_listing.proofs.glob.matches_after_star.Goals as goal
 
 pub tokens-preserved-in-Star : goal.tokens-preserved-in-Star
@@ -48,20 +49,27 @@ tokens-preserved c =
     let takes = c.in-Mismatch.ensures.takes in
     let after = tokens_of c.tokens.after.now in
     let more = c.in-Some.more.now in
+    let rest = c.from_first-from.result.now in
+    let skips = c.from_first-from.ensures in
     let next = c.in-Some.ensures.cases in
     let old = matches_later after c.tokens.from.now in
-    let paid = paid_again (length c.tokens.from.now) (length more) (tokens_work (tokens_of c.args.tokens.now)) next.1 in
+    let paid = paid_skip (length c.tokens.from.now) (length more) (length rest) (tokens_work (tokens_of c.args.tokens.now)) next.1 skips.shorter in
     record {
-      same = inv.same ∙ ap (λ t. t || old) says ∙ ap (matches_later after) next.0 ∙ star_split after more;
-      absorbed = later_is_match after more;
+      same = inv.same ∙ ap (λ t. t || old) says ∙ ap (matches_later after) next.0 ∙ skips.matches ∙ star_split after rest;
+      absorbed = later_is_match after rest;
       short = inv.fewer;
       fewer = inv.fewer;
       within = omega arith;
       left = inv.again;
       again = inv.again;
-      rises = omega (arith, takes.0, inv.rises);
-      work = omega (arith, takes.1, inv.work, inv.again, paid);
+      rises = omega (arith, takes.0, inv.rises, skips.work, skips.shorter);
+      work = omega (arith, takes.1, inv.work, inv.again, paid, skips.work, skips.shorter);
     }
+
+pub tokens-smaller : goal.tokens-smaller
+tokens-smaller c =
+    falls_skip (length c.tokens.from.now) (length c.in-Some.more.now) (length c.from_first-from.result.now) (length c.args.tokens.now)
+    (length c.tokens.left.now) (length c.tokens.after.now) c.in-Some.ensures.cases.1 c.from_first-from.ensures.shorter c.tokens.invariant.fewer
 
 pub returns-in-End-clause-work : goal.returns-in-End-clause-work
 returns-in-End-clause-work c =

@@ -9,7 +9,7 @@ use Rattle.cs_listing.proofs.rules.Rules.add_all.Goals as goal
 
 pub loop-text-preserved : goal.loop-text-preserved
 loop-text-preserved c =
-    saying_more c.args.decision c.args.self.now.rules.items c.loop-text.self.rules.items c.add_rule.new.rules.items c.loop-text.yielded
+    saying_more c.args.decision c.args.self.now.rules.items c.loop-text.self.rules.items c.add_rule.new.self.rules.items c.loop-text.yielded
     c.in-Some.text c.loop-text.invariant c.in_ok-add_rule.ensures
 
 pub returns : goal.returns

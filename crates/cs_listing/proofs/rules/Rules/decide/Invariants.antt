@@ -1,4 +1,4 @@
-use Rattle.std.proofs.Common.{◌≡◌, ◌≤◌, ◌+◌, map, length}
+use Rattle.std.proofs.Common.{◌≡◌, ◌≤◌, ◌+◌, map, take, length}
 use Rattle.cs_listing.specs.Rules.{decide}
 use Rattle.cs_listing.specs.MatchWork.{rules_work}
 use Rattle.cs_listing.specs.Models.{names, rule_of}
@@ -7,10 +7,13 @@ use Rattle.cs_listing.proofs.rules.Rules.decide.Given as goal
 -- the earlier rules decide as all do
 abbrev pub invariant-rules : goal.invariant-rules
 invariant-rules l = record {
-  same : decide (map rule_of l.self.rules.items) (names l.path) l.is_folder ≡ decide (map rule_of l.earlier) (names l.path) l.is_folder;
+  same : decide (map rule_of l.self.rules.items) (names l.path) l.is_folder
+      ≡ decide (map rule_of (take l.end l.self.rules.items)) (names l.path) l.is_folder;
+  within : l.end ≤ length l.self.rules.items;
   rises : l.fn.steps.count ≤ l.steps.count;
-  work : l.steps.count + rules_work (map rule_of l.earlier) (names l.path) ≤ l.fn.steps.count + rules_work (map rule_of l.self.rules.items) (names l.path);
+  work : l.steps.count + rules_work (map rule_of (take l.end l.self.rules.items)) (names l.path)
+      ≤ l.fn.steps.count + rules_work (map rule_of l.self.rules.items) (names l.path);
 }
 
 abbrev pub decreases-rules : goal.decreases-rules
-decreases-rules l = length l.earlier
+decreases-rules l = l.end

@@ -8,7 +8,7 @@ use Rattle.cs_listing.proofs.rules.Rules.parse.Goals as goal
 
 pub loop-line-preserved : goal.loop-line-preserved
 loop-line-preserved c =
-    line_more c.loop-line.rules.items c.add_line.new.rules.items c.loop-line.yielded c.in-Some.line c.loop-line.invariant c.in_ok-add_line.ensures
+    line_more c.loop-line.rules.rules.items c.add_line.new.self.rules.items c.loop-line.yielded c.in-Some.line c.loop-line.invariant c.in_ok-add_line.ensures
 
 pub returns : goal.returns
 returns c =

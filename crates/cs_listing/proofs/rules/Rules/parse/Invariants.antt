@@ -6,4 +6,4 @@ use Rattle.cs_listing.proofs.rules.Rules.parse.Given as goal
 
 -- the rules of the lines so far
 abbrev pub invariant-loop-line : goal.invariant-loop-line
-invariant-loop-line l = map rule_of l.rules.items ≡ filter_map rule_of_line (names l.yielded)
+invariant-loop-line l = map rule_of l.rules.rules.items ≡ filter_map rule_of_line (names l.yielded)

@@ -8,13 +8,11 @@ use Rattle.cs_listing.specs.PathNames.{names_along}
 use Rattle.cs_listing.specs.Rules.{Rule}
 use Rattle.cs_listing.specs.UserRules.{user_rules}
 use Rattle.cs_project.specs.Settings.{shown_in}
-use Rattle.cs_project.specs.declared.form.Mode.TheVariants.{Names}
-use Rattle.cs_project.specs.declared.settings.Switches.{Switches}
 use Rattle.cs_project.specs.declared.settings.Task.{Task}
 use Rattle.cs_project.specs.declared.settings.Task.TheVariants as task
 use Rattle.cs_command.specs.Requests.{IsRequest}
 use Rattle.cs_command.specs.declared.request.Request.{Request}
-use Rattle.cs_fresh.specs.Projects.{SearchesProject, ListsProject}
+use Rattle.cs_fresh.specs.Projects.{FindsNone, ListsProject, SearchesProject}
 use Rattle.cs_fresh.specs.Scopes.{are_several}
 use Rattle.cs_fresh.specs.declared.file_search.FileSearch.{FileSearch}
 use Rattle.cs_fresh.specs.declared.scope.Scope.{Scope}
@@ -34,10 +32,6 @@ HasBase items call settings = settings ≡ plain_settings (rules_of_user items c
 abbrev pub words_at : List (List ℕ) → List ℕ → List (List ℕ)
 words_at words indices = map (λ index. slice_index_or words index []) indices
 
--- -q asks only whether there is a match
-abbrev pub searched : Switches → Switches
-searched switches = if switches.silent then record switches { mode = Names } else switches
-
 -- Where a request looks: the files that its words name, with its choices, or those below the current folder.
 abbrev pub IsScopeOf : ProjectCall → Request → Scope → Type 0
 IsScopeOf call request scope = (scope.folder.now ≡ call.folder.now) × (scope.choices.now ≡ request.choices)
@@ -47,7 +41,7 @@ IsScopeOf call request scope = (scope.folder.now ≡ call.folder.now) × (scope.
 pub record IsSearchFor (items : TreeItems) (call : ProjectCall) (request : Request) (scope : Scope) (search : FileSearch) : Type 0 where
   pub pattern : IsSomeAnd request.pattern (λ t. MatchSameLines search.search.matcher.tree t × MatchSameSpans search.search.finder.tree t)
   pub whole : search.search.whole ≡ request.switches.pattern.whole
-  pub options : search.options ≡ shown_in (searched request.switches) request.limits request.colour (record {
+  pub options : search.options ≡ shown_in request.switches request.limits request.colour (record {
     terminal = call.terminal;
     several = are_several items call.folder.now (texts scope.words.now);
   })
@@ -55,25 +49,30 @@ pub record IsSearchFor (items : TreeItems) (call : ProjectCall) (request : Reque
   pub marked : search.marked ≡ false
 
 module _ (items : TreeItems) (call : ProjectCall) (request : Request) where
-  -- the search that is asked for
-  abbrev pub SearchesFor : List ℕ → List ℕ → ℕ → Type 0
-  SearchesFor given later status = status ≢ 2 → (scope : Scope) × (search : FileSearch) × IsScopeOf call request scope
-      × IsSearchFor items call request scope search × SearchesProject items scope search given later status
+  -- This holds of the search that is asked for.
+  abbrev pub ForSearch : (Scope → FileSearch → Type 0) → Type 0
+  ForSearch P = (scope : Scope) × (search : FileSearch) × IsScopeOf call request scope
+      × IsSearchFor items call request scope search × P scope search
 
-  -- the names that are asked for
+  -- The search that is asked for was done. With -q only the status says what it found.
+  abbrev pub SearchesFor : Bool → List ℕ → List ℕ → ℕ → Type 0
+  SearchesFor false given later status =
+      status ≢ 2 → ForSearch (λ scope search. SearchesProject items scope search given later status)
+  SearchesFor true given later status =
+      (later ≡ given) × (status ≡ 1 → ForSearch (λ scope search. FindsNone items scope search status))
+
+  -- the names that are asked for were printed
   abbrev pub ListsFor : List ℕ → List ℕ → ℕ → Type 0
   ListsFor given later status = (scope : Scope) × IsScopeOf call request scope
       × ListsProject items scope ((if request.switches.form.nul then 0 else 10) ∷ []) given later status
 
-  -- -q prints nothing, and ends with status 0 where something would be printed
-  abbrev pub AnswersTask : Task → Bool → List ℕ → List ℕ → ℕ → Type 0
-  AnswersTask task.Search false given later status = SearchesFor given later status
-  AnswersTask task.Search true given later status = (later ≡ given) × (status ≢ 0 → SearchesFor [] [] status)
-  AnswersTask task.Files silent given later status = ListsFor given later status
-  AnswersTask _ silent given later status = status ≡ 0
+  abbrev pub AnswersTask : Task → List ℕ → List ℕ → ℕ → Type 0
+  AnswersTask task.Search given later status = SearchesFor request.switches.silent given later status
+  AnswersTask task.Files given later status = ListsFor given later status
+  AnswersTask _ given later status = status ≡ 0
 
   abbrev pub AnswersRequest : List ℕ → List ℕ → ℕ → Type 0
-  AnswersRequest given later status = AnswersTask request.switches.task request.switches.silent given later status
+  AnswersRequest given later status = AnswersTask request.switches.task given later status
 
 -- Unless the status is 2, the arguments ask for something, and this was done.
 abbrev pub DoesProject : TreeItems → ProjectCall → List ℕ → List ℕ → ℕ → Type 0

@@ -1,22 +1,21 @@
 // What the arguments of `cs` ask for is done.
-ghost use Rattle.std.specs.Prelude.{◌≡◌, ◌≢◌, [], map, string_bytes, IfOk};
+ghost use Rattle.std.specs.Prelude.{◌≡◌, map, string_bytes, IfOk};
 ghost use Rattle.cs_tree.specs.Cover.{is_absolute};
 ghost use Rattle.cs_tree.specs.PathParts.{texts};
 ghost use Rattle.cs_listing.specs.FolderReads.{InTree};
 ghost use Rattle.cs_listing.specs.Models.{chosen_in};
-ghost use Rattle.cs_fresh.specs.Calls.{AnswersRequest, DoesProject, HasBase, ListsFor, SearchesFor, searched, words_at};
+ghost use Rattle.cs_fresh.specs.Calls.{AnswersRequest, DoesProject, HasBase, ListsFor, SearchesFor, words_at as words_at'};
 
 use crate::fault::FreshFault;
 use crate::file_search::FileSearch;
-use crate::first_output::FirstOutput;
-use crate::project::{list_project, search_project};
+use crate::project::{find_in_project, list_project, search_project};
 use crate::reports::print_unread;
 use crate::scope::Scope;
 use cs_command::{HELP, Request, RequestFault, fault_line, read_request};
 use cs_listing::{Choices, Rules, TYPES, path_names, user_rules};
 use cs_match::Program;
 use cs_output::Output;
-use cs_project::{LineSearch, Mode, Surroundings, Switches, Task};
+use cs_project::{Search, Surroundings, Task};
 use cs_tree::{Look, Sink, write_all};
 use std::alloc::{AllocError, Global};
 
@@ -129,7 +128,6 @@ fn answer<T: Look, O: Output, E: Sink>(
         Task::Version => Ok(print(VERSION, out)?),
         Task::Types => Ok(print_types(out)?),
         Task::Files => list(call, request, tree, out, err),
-        Task::Search if request.switches.silent => search_silently(call, request, tree, err),
         Task::Search => search(call, request, tree, out, err),
     }
 }
@@ -157,7 +155,7 @@ fn words_at<'a>(
     indices: &[usize],
 ) -> Result<Vec<&'a str>, AllocError>
     ensures { IfOk result (λ chosen. texts chosen.items
-        ≡ words_at (map string_bytes words.now) indices.now) }
+        ≡ words_at' (map string_bytes words.now) indices.now) }
 {
     let mut chosen = Vec::new(alloc);
     'indices: for index in indices {
@@ -192,7 +190,7 @@ fn list<T: Look, O: Output, E: Sink>(
     list_project(&scope, end, tree, out, err)
 }
 
-/// Searches the files.
+/// Searches the files. With `-q` only the status says whether a line is marked.
 fn search<T: Look, O: Output, E: Sink>(
     call: &ProjectCall<'_>,
     request: &Request,
@@ -201,7 +199,8 @@ fn search<T: Look, O: Output, E: Sink>(
     err: &mut E,
 ) -> Result<u8, FreshFault>
     ensures searches { IfOk result (λ status. InTree (T.snapshot tree.old)
-        (λ items. SearchesFor items call.now request.now (O.given out.old) (O.given out.new) status)) }
+        (λ items. SearchesFor items call.now request.now request.now.switches.silent
+        (O.given out.old) (O.given out.new) status)) }
     ensures keeps { T.snapshot tree.new ≡ T.snapshot tree.old }
 {
     let alloc = call.alloc;
@@ -214,39 +213,14 @@ fn search<T: Look, O: Output, E: Sink>(
         terminal: call.terminal,
         several: scope.is_of_several(tree)?,
     };
-    let options =
-        searched(request.switches).shown_in(&request.limits, request.colour, place);
+    let options = request
+        .switches
+        .shown_in(&request.limits, request.colour, place);
     let program = Program::compile(alloc, pattern)?;
-    let lines = LineSearch::new(alloc, &program, request.switches.pattern.whole)?;
+    let lines = Search::new(alloc, &program, request.switches.pattern.whole)?;
     let files = FileSearch::new(alloc, options, request.switches.files.binary, lines)?;
+    if request.switches.silent {
+        return find_in_project(&scope, files, tree, err);
+    }
     search_project(&scope, files, tree, out, err)
-}
-
-/// What the switches ask of a search. One that prints nothing looks for the first match.
-fn searched(switches: Switches) -> Switches
-    ensures { result ≡ searched switches }
-{
-    let mut searched = switches;
-    if switches.silent {
-        searched.mode = Mode::Names;
-    }
-    searched
-}
-
-/// Searches the files, prints nothing, and ends where something would be printed, with status 0.
-fn search_silently<T: Look, E: Sink>(
-    call: &ProjectCall<'_>,
-    request: &Request,
-    tree: &mut T,
-    err: &mut E,
-) -> Result<u8, FreshFault>
-    ensures silent { IfOk result (λ status. InTree (T.snapshot tree.old)
-        (λ items. status ≢ 0 → SearchesFor items call.now request.now [] [] status)) }
-    ensures keeps { T.snapshot tree.new ≡ T.snapshot tree.old }
-{
-    let mut first = FirstOutput::new();
-    match search(call, request, tree, &mut first, err) {
-        Err(_) if first.is_asked() => Ok(0),
-        answer => answer,
-    }
 }

@@ -18,7 +18,6 @@
 mod call;
 mod fault;
 mod file_search;
-mod first_output;
 pub mod laws;
 mod names;
 mod places;

@@ -9,3 +9,4 @@ mod ScopeLemmas
 mod ProjectLemmas
 mod HandedLemmas
 mod Examples
+mod CallLemmas

@@ -1,5 +1,6 @@
 -- What `cs` does: what its arguments ask for, and what is printed for it. docs/PROMISES.md, "Searching a project".
 use Rattle.std.specs.Prelude.{ℕ, ◌≡◌, ◌≢◌, Bool, true, false, if◌then◌else◌, List, [], ◌∷◌, map, slice_index_or, string_bytes, Option, Some, None, IsSomeAnd}
+use Rattle.cs_syntax.specs.Matching.{Tree}
 use Rattle.cs_match.specs.SameLines.{MatchSameLines, MatchSameSpans}
 use Rattle.cs_tree.specs.PathParts.{texts}
 use Rattle.cs_listing.specs.Choices.{Settings, plain_settings}
@@ -37,9 +38,14 @@ abbrev pub IsScopeOf : ProjectCall → Request → Scope → Type 0
 IsScopeOf call request scope = (scope.folder.now ≡ call.folder.now) × (scope.choices.now ≡ request.choices)
     × (texts scope.words.now ≡ words_at (map string_bytes call.words.now) request.paths.items)
 
+-- A program for the pattern of a request.
+abbrev pub IsProgramFor : Request → Tree → Type 0
+IsProgramFor request program = IsSomeAnd request.pattern (λ t. MatchSameLines program t × MatchSameSpans program t)
+
 -- A search for the pattern of a request, with its options; no line is marked yet.
 pub record IsSearchFor (items : TreeItems) (call : ProjectCall) (request : Request) (scope : Scope) (search : FileSearch) : Type 0 where
-  pub pattern : IsSomeAnd request.pattern (λ t. MatchSameLines search.search.matcher.tree t × MatchSameSpans search.search.finder.tree t)
+  pub lines : IsProgramFor request search.search.matcher.tree
+  pub spans : IsProgramFor request search.search.finder.tree
   pub whole : search.search.whole ≡ request.switches.pattern.whole
   pub options : search.options ≡ shown_in request.switches request.limits request.colour (record {
     terminal = call.terminal;
@@ -47,6 +53,10 @@ pub record IsSearchFor (items : TreeItems) (call : ProjectCall) (request : Reque
   })
   pub binary : search.binary ≡ request.switches.files.binary
   pub marked : search.marked ≡ false
+
+-- a NUL or a newline ends a name
+abbrev pub name_end : Request → List ℕ
+name_end request = (if request.switches.form.nul then 0 else 10) ∷ []
 
 module _ (items : TreeItems) (call : ProjectCall) (request : Request) where
   -- This holds of the search that is asked for.
@@ -63,8 +73,8 @@ module _ (items : TreeItems) (call : ProjectCall) (request : Request) where
 
   -- the names that are asked for were printed
   abbrev pub ListsFor : List ℕ → List ℕ → ℕ → Type 0
-  ListsFor given later status = (scope : Scope) × IsScopeOf call request scope
-      × ListsProject items scope ((if request.switches.form.nul then 0 else 10) ∷ []) given later status
+  ListsFor given later status =
+      (scope : Scope) × IsScopeOf call request scope × ListsProject items scope (name_end request) given later status
 
   abbrev pub AnswersTask : Task → List ℕ → List ℕ → ℕ → Type 0
   AnswersTask task.Search given later status = SearchesFor request.switches.silent given later status

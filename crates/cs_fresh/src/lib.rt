@@ -15,6 +15,7 @@
 //! The crate is apart from cs_project and cs_listing since it is the first one above both.
 #![tactic(auto)]
 
+mod answer;
 mod call;
 mod fault;
 mod file_search;
@@ -28,7 +29,8 @@ mod sink_output;
 mod unprinted;
 mod walks;
 
-pub use call::{ProjectCall, UserFolders, run_project};
+pub use answer::run_project;
+pub use call::{ProjectCall, UserFolders};
 pub use fault::FreshFault;
 pub use file_search::FileSearch;
 pub use project::{find_in_project, list_project, search_project};

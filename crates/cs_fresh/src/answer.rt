@@ -1,0 +1,257 @@
+// What the arguments of `cs` ask for is done.
+ghost use Rattle.std.specs.Prelude.{◌≡◌, ◌≢◌, [], map, slice_index_or, string_bytes, IfOk};
+ghost use Rattle.cs_tree.specs.PathParts.{texts};
+ghost use Rattle.cs_listing.specs.FolderReads.{InTree};
+ghost use Rattle.cs_listing.specs.Models.{chosen_in};
+ghost use Rattle.cs_fresh.specs.Calls.{AnswersRequest, DoesProject, HasBase, IsProgramFor, IsScopeOf, IsSearchFor, ListsFor, SearchesFor, name_end as name_end', words_at as words_at'};
+
+use crate::call::ProjectCall;
+use crate::fault::FreshFault;
+use crate::file_search::FileSearch;
+use crate::project::{find_in_project, list_project, search_project};
+use crate::reports::print_unread;
+use crate::scope::Scope;
+use cs_command::{HELP, Request, RequestFault, fault_line, read_request};
+use cs_listing::{Choices, Rules, TYPES, path_names, user_rules};
+use cs_match::Program;
+use cs_output::Output;
+use cs_project::{Search, Surroundings, Task};
+use cs_tree::{Look, Sink, write_all};
+use std::alloc::{AllocError, Global};
+
+/// What `--version` prints.
+const VERSION: &[u8] = b"cs 0.9.0\n";
+
+/// The choices without options: the rules of the user, and globs relative to the current folder.
+#[derive(Drop)]
+struct Base {
+    choices: Choices,
+    /// The line of an error was printed.
+    wrong: bool,
+}
+
+/// Does what the arguments of `cs` ask for, and returns the exit status: 2 after an error, else 0
+/// if a line is marked, else 1.
+pub fn run_project<T: Look, O: Output, E: Sink>(
+    call: &ProjectCall<'_>,
+    tree: &mut T,
+    out: &mut O,
+    err: &mut E,
+) -> Result<u8, FreshFault>
+    ensures does { IfOk result (λ status. InTree (T.snapshot tree.old)
+        (λ items. DoesProject items call.now (O.given out.old) (O.given out.new) status)) }
+    ensures keeps { T.snapshot tree.new ≡ T.snapshot tree.old }
+{
+    let base = base_of(call, tree, err)?;
+    match read_request(call.alloc, base.choices, call.words) {
+        Ok(request) => {
+            let status = answer(call, &request, tree, out, err)?;
+            Ok(status_after(base.wrong, status))
+        }
+        Err(RequestFault::Memory) => Err(FreshFault::Memory),
+        Err(fault) => refuse(call, fault, err),
+    }
+}
+
+/// The exit status after the line of an error, or after none.
+fn status_after(wrong: bool, status: u8) -> u8
+    ensures { result ≢ 2 → result ≡ status }
+{
+    if wrong { 2 } else { status }
+}
+
+fn base_of<T: Look, E: Sink>(
+    call: &ProjectCall<'_>,
+    tree: &mut T,
+    err: &mut E,
+) -> Result<Base, FreshFault>
+    ensures base { IfOk result (λ base. InTree (T.snapshot tree.old)
+        (λ items. HasBase items call.now (chosen_in base.choices))) }
+    ensures keeps { T.snapshot tree.new ≡ T.snapshot tree.old }
+{
+    let folder = path_names(call.alloc, call.folder)?;
+    let Some(user) = &call.user else {
+        return Ok(Base {
+            choices: Choices::new(call.alloc, Rules::none(call.alloc), folder),
+            wrong: false,
+        });
+    };
+    let read = user_rules(call.alloc, tree, user.home, user.config)?;
+    let wrong = print_unread(call.alloc, &read.unread, err)?;
+    Ok(Base {
+        choices: Choices::new(call.alloc, read.rules, folder),
+        wrong,
+    })
+}
+
+/// Prints the line of arguments that ask for nothing.
+fn refuse<E: Sink>(
+    call: &ProjectCall<'_>,
+    fault: RequestFault,
+    err: &mut E,
+) -> Result<u8, FreshFault>
+    ensures { IfOk result (λ status. status ≡ 2) }
+{
+    let line = fault_line(call.alloc, call.words, fault)?;
+    write_all(err, line.as_bytes())?;
+    Ok(2)
+}
+
+/// Does what is asked for.
+fn answer<T: Look, O: Output, E: Sink>(
+    call: &ProjectCall<'_>,
+    request: &Request,
+    tree: &mut T,
+    out: &mut O,
+    err: &mut E,
+) -> Result<u8, FreshFault>
+    ensures answers { IfOk result (λ status. InTree (T.snapshot tree.old)
+        (λ items. AnswersRequest items call.now request.now (O.given out.old) (O.given out.new) status)) }
+    ensures keeps { T.snapshot tree.new ≡ T.snapshot tree.old }
+{
+    match request.switches.task {
+        Task::Help => Ok(print(HELP.as_bytes(), out)?),
+        Task::Version => Ok(print(VERSION, out)?),
+        Task::Types => Ok(print_types(out)?),
+        Task::Files => list(call, request, tree, out, err),
+        Task::Search => search(call, request, tree, out, err),
+    }
+}
+
+/// Prints a text, and returns the exit status 0.
+fn print<O: Output>(text: &[u8], out: &mut O) -> Result<u8, AllocError>
+    ensures { IfOk result (λ status. status ≡ 0) }
+{
+    out.append(text)?;
+    Ok(0)
+}
+
+/// Prints the types of files with their globs, and returns the exit status 0.
+fn print_types<O: Output>(out: &mut O) -> Result<u8, AllocError>
+    ensures { IfOk result (λ status. status ≡ 0) }
+{
+    'types: for entry in &TYPES {
+        out.append(entry.0.as_bytes())?;
+        out.append(b": ")?;
+        out.append(entry.1.as_bytes())?;
+        out.append(b"\n")?;
+    }
+    Ok(0)
+}
+
+/// The word with this index.
+fn word_at(words: &[String], index: usize) -> &str
+    ensures { result.now ≡ slice_index_or (map string_bytes words.now) index [] }
+{
+    match words.get(index) {
+        Some(word) => word.as_str(),
+        None => "",
+    }
+}
+
+/// The words with these indices.
+fn words_at<'a>(
+    alloc: Global,
+    words: &'a [String],
+    indices: &[usize],
+) -> Result<Vec<&'a str>, AllocError>
+    ensures { IfOk result (λ chosen. texts chosen.items
+        ≡ words_at' (map string_bytes words.now) indices.now) }
+{
+    let mut chosen = Vec::new(alloc);
+    'indices: for index in indices {
+        chosen.push(word_at(words, *index))?;
+    }
+    Ok(chosen)
+}
+
+/// Where a request looks.
+fn scope_of<'a>(
+    call: &ProjectCall<'a>,
+    request: &'a Request,
+    words: &'a [&'a str],
+) -> Scope<'a>
+    requires { texts words.now ≡ words_at' (map string_bytes call.now.words.now) request.now.paths.items }
+    ensures { IsScopeOf call.now request.now result }
+{
+    Scope::new(call.alloc, call.folder, &request.choices, words)
+}
+
+/// What ends a name.
+fn name_end(request: &Request) -> &'static [u8]
+    ensures { result.now ≡ name_end' request.now }
+{
+    if request.switches.form.nul {
+        b"\0"
+    } else {
+        b"\n"
+    }
+}
+
+/// Prints the names of the files.
+#[tactic(auto, using(crate::proofs::CallLemmas::lists_for))]
+fn list<T: Look, O: Output, E: Sink>(
+    call: &ProjectCall<'_>,
+    request: &Request,
+    tree: &mut T,
+    out: &mut O,
+    err: &mut E,
+) -> Result<u8, FreshFault>
+    ensures lists { IfOk result (λ status. InTree (T.snapshot tree.old)
+        (λ items. ListsFor items call.now request.now (O.given out.old) (O.given out.new) status)) }
+    ensures keeps { T.snapshot tree.new ≡ T.snapshot tree.old }
+{
+    let words = words_at(call.alloc, call.words, &request.paths)?;
+    let scope = scope_of(call, request, &words);
+    list_project(&scope, name_end(request), tree, out, err)
+}
+
+/// The search for the pattern of a request.
+fn files_for<'p, T: Look>(
+    call: &ProjectCall<'_>,
+    request: &Request,
+    scope: &Scope<'_>,
+    program: &'p Program,
+    tree: &mut T,
+) -> Result<FileSearch<'p>, AllocError>
+    requires scope { IsScopeOf call.now request.now scope.now }
+    requires program { IsProgramFor request.now program.now }
+    ensures files { IfOk result (λ search. InTree (T.snapshot tree.old)
+        (λ items. IsSearchFor items call.now request.now scope.now search)) }
+    ensures keeps { T.snapshot tree.new ≡ T.snapshot tree.old }
+{
+    let place = Surroundings {
+        terminal: call.terminal,
+        several: scope.is_of_several(tree)?,
+    };
+    let switches = &request.switches;
+    let options = switches.shown_in(&request.limits, request.colour, place);
+    let lines = Search::new(call.alloc, program, switches.pattern.whole)?;
+    FileSearch::new(call.alloc, options, switches.files.binary, lines)
+}
+
+/// Searches the files. With `-q` only the status says whether a line is marked.
+fn search<T: Look, O: Output, E: Sink>(
+    call: &ProjectCall<'_>,
+    request: &Request,
+    tree: &mut T,
+    out: &mut O,
+    err: &mut E,
+) -> Result<u8, FreshFault>
+    ensures searches { IfOk result (λ status. InTree (T.snapshot tree.old)
+        (λ items. SearchesFor items call.now request.now request.now.switches.silent
+        (O.given out.old) (O.given out.new) status)) }
+    ensures keeps { T.snapshot tree.new ≡ T.snapshot tree.old }
+{
+    let Some(pattern) = &request.pattern else {
+        return refuse(call, RequestFault::NoPattern, err);
+    };
+    let words = words_at(call.alloc, call.words, &request.paths)?;
+    let scope = scope_of(call, request, &words);
+    let program = Program::compile(call.alloc, pattern)?;
+    let files = files_for(call, request, &scope, &program, tree)?;
+    if request.switches.silent {
+        return find_in_project(&scope, files, tree, err);
+    }
+    search_project(&scope, files, tree, out, err)
+}

@@ -4,7 +4,7 @@ use Rattle.std.specs.Prelude.{Option, Some, None}
 use Rattle.std.specs.List.{filter_map, list_any, cons_option}
 use Rattle.std.specs.Option.{option_to_list}
 use Rattle.cs_listing.specs.Choices.{Settings}
-use Rattle.cs_project.specs.declared.words.Item.{Item}
+use Rattle.cs_project.specs.declared.words.WordItem.{WordItem}
 use Rattle.cs_command.specs.Choices.{Choice, Chooses, ChoosesAll, is_type_at, IsTypeIn}
 use Rattle.std.proofs.lemmas.Bool.{or_cases, or_left, or_right, false≢true}
 use Rattle.cs_command.specs.declared.fault.RequestFault.{RequestFault}
@@ -28,7 +28,7 @@ no_choice choice (item ∷ items) old none = absurd (omega (arith, none))
 
 -- ---- types
 
-pub type_in_first : (item : Item) (items : List Item) (fault : RequestFault) → IsTypeIn (item ∷ []) fault → IsTypeIn (item ∷ items) fault
+pub type_in_first : (item : WordItem) (items : List WordItem) (fault : RequestFault) → IsTypeIn (item ∷ []) fault → IsTypeIn (item ∷ items) fault
 type_in_first item items fault (part, is, found) = (
   part,
   is,
@@ -38,5 +38,5 @@ type_in_first item items fault (part, is, found) = (
   ],
 )
 
-pub type_in_more : (item : Item) (items : List Item) (fault : RequestFault) → IsTypeIn items fault → IsTypeIn (item ∷ items) fault
+pub type_in_more : (item : WordItem) (items : List WordItem) (fault : RequestFault) → IsTypeIn items fault → IsTypeIn (item ∷ items) fault
 type_in_more item items fault (part, is, found) = (part, is, or_right (is_type_at part item) (list_any (is_type_at part) items) found)

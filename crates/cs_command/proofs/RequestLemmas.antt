@@ -6,7 +6,7 @@ use Rattle.cs_project.specs.LetterCase.{case_of}
 use Rattle.cs_project.specs.declared.letter_case.LetterCase.{LetterCase}
 use Rattle.cs_project.specs.declared.settings.Limits.{Limits}
 use Rattle.cs_project.specs.declared.settings.Switches.{Switches}
-use Rattle.cs_project.specs.declared.words.Item.{Item}
+use Rattle.cs_project.specs.declared.words.WordItem.{WordItem}
 use Rattle.cs_command.specs.Choices.{choices_of}
 use Rattle.cs_command.specs.Patterns.{pattern_in}
 use Rattle.cs_command.specs.Requests.{asked_pattern, request_by}
@@ -22,7 +22,7 @@ pub asked : (words : List (List ℕ)) (switches : Switches) (case : LetterCase) 
 asked words switches case texts needs wanted is =
     ap (λ (b : Bool). if b then and_then (pattern_in words switches.pattern case texts.patterns) (λ t. Ok (Some t)) else Ok None) (sym is ∙ wanted)
 
-module _ (words : List (List ℕ)) (items : List Item) (options : Options) where
+module _ (words : List (List ℕ)) (items : List WordItem) (options : Options) where
   pub bad_limits : (fault : RequestFault) → limits_in words options.values ≡ Err fault → request_by words items options ≡ Err fault
   bad_limits fault a = and_then_err _ _ fault a
 

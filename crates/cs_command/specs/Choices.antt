@@ -8,8 +8,8 @@ use Rattle.cs_listing.specs.RuleFiles.{rule_in}
 use Rattle.cs_project.specs.declared.named.Valued.{Valued}
 use Rattle.cs_project.specs.declared.named.Valued.TheVariants as valued
 use Rattle.cs_project.specs.declared.settings.FileChoice.{FileChoice}
-use Rattle.cs_project.specs.declared.words.Item.{Item}
-use Rattle.cs_project.specs.declared.words.Item.TheVariants as item
+use Rattle.cs_project.specs.declared.words.WordItem.{WordItem}
+use Rattle.cs_project.specs.declared.words.WordItem.TheVariants as item
 use Rattle.cs_command.specs.Options.{part_of}
 use Rattle.cs_command.specs.Values.{text_of}
 use Rattle.cs_command.specs.declared.fault.RequestFault.{RequestFault}
@@ -34,7 +34,7 @@ choice_by valued.FileType text = Some (of_type text false)
 choice_by valued.NotType text = Some (of_type text true)
 choice_by _ text = None
 
-abbrev pub choice_in : List (List ℕ) → Item → Option Choice
+abbrev pub choice_in : List (List ℕ) → WordItem → Option Choice
 choice_in words (item.Value valued word from) = choice_by valued (text_of words (part_of word from))
 choice_in words _ = None
 
@@ -53,7 +53,7 @@ abbrev pub choices_by : FileChoice → Option ℕ → List Choice
 choices_by files most = hidden_if files.hidden ++ (ignored_if files.ignored ++ depth_of most)
 
 -- all choices
-abbrev pub choices_of : List (List ℕ) → FileChoice → Option ℕ → List Item → List Choice
+abbrev pub choices_of : List (List ℕ) → FileChoice → Option ℕ → List WordItem → List Choice
 choices_of words files most items = choices_by files most ++ filter_map (choice_in words) items
 
 -- one choice. Which globs a type has is not said.
@@ -70,11 +70,11 @@ ChoosesAll [] old new = new ≡ old
 ChoosesAll (choice ∷ choices) old new = (between : Settings) × Chooses choice old between × ChoosesAll choices between new
 
 -- whether an item is the value of -t or of -T at this part of a word
-abbrev pub is_type_at : WordPart → Item → Bool
+abbrev pub is_type_at : WordPart → WordItem → Bool
 is_type_at part (item.Value valued.FileType word from) = nat_eq word part.word && nat_eq from part.from
 is_type_at part (item.Value valued.NotType word from) = nat_eq word part.word && nat_eq from part.from
 is_type_at part _ = false
 
 -- the error of a type that one of the items names
-abbrev pub IsTypeIn : List Item → RequestFault → Type 0
+abbrev pub IsTypeIn : List WordItem → RequestFault → Type 0
 IsTypeIn items fault = (part : WordPart) × (fault ≡ NoType part) × (list_any (is_type_at part) items ≡ true)

@@ -5,8 +5,8 @@ use Rattle.cs_project.specs.declared.named.Switch.{Switch}
 use Rattle.cs_project.specs.declared.named.Switch.TheVariants as on
 use Rattle.cs_project.specs.declared.named.Valued.{Valued}
 use Rattle.cs_project.specs.declared.named.Valued.TheVariants as valued
-use Rattle.cs_project.specs.declared.words.Item.{Item}
-use Rattle.cs_project.specs.declared.words.Item.TheVariants as item
+use Rattle.cs_project.specs.declared.words.WordItem.{WordItem}
+use Rattle.cs_project.specs.declared.words.WordItem.TheVariants as item
 use Rattle.cs_command.specs.declared.options.WordPart.{WordPart}
 use Rattle.cs_command.specs.declared.options.OptionValues.{OptionValues}
 use Rattle.cs_command.specs.declared.options.Options.{Options}
@@ -41,14 +41,14 @@ with_option options switch =
     else record options { switches = with_switch options.switches switch }
 
 -- after one more item
-abbrev pub with_item : Options → Item → Options
+abbrev pub with_item : Options → WordItem → Options
 with_item options (item.Switch switch) = with_option options switch
 with_item options (item.Value valued word from) = record options { values = with_value options.values valued (part_of word from) }
 with_item options (item.Operand word) = options
 
-unfoldable pub options_after : Options → List Item → Options
+unfoldable pub options_after : Options → List WordItem → Options
 options_after options [] = options
 options_after options (item ∷ items) = options_after (with_item options item) items
 
-abbrev pub options_of : List Item → Options
+abbrev pub options_of : List WordItem → Options
 options_of items = options_after (record { switches = no_switches; values = no_values; of_index = None }) items

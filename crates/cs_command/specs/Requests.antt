@@ -8,7 +8,7 @@ use Rattle.cs_project.specs.Words.{items_of}
 use Rattle.cs_project.specs.declared.letter_case.LetterCase.{LetterCase}
 use Rattle.cs_project.specs.declared.settings.Limits.{Limits}
 use Rattle.cs_project.specs.declared.settings.Switches.{Switches}
-use Rattle.cs_project.specs.declared.words.Item.{Item}
+use Rattle.cs_project.specs.declared.words.WordItem.{WordItem}
 use Rattle.cs_command.specs.Choices.{Choice, choices_of, ChoosesAll, IsTypeIn}
 use Rattle.cs_command.specs.Options.{options_of}
 use Rattle.cs_command.specs.Patterns.{pattern_in}
@@ -38,7 +38,7 @@ asked_pattern words switches case texts =
     else Ok None
 
 -- the values of the options, and then the patterns
-abbrev pub request_by : List (List ℕ) → List Item → Options → Result RequestView RequestFault
+abbrev pub request_by : List (List ℕ) → List WordItem → Options → Result RequestView RequestFault
 request_by words items options =
     let switches = options.switches in
     let texts = texts_of switches.task items in
@@ -56,7 +56,7 @@ request_by words items options =
     })))))
 
 -- no option of an index has a meaning yet
-abbrev pub request_in : List (List ℕ) → List Item → Options → Result RequestView RequestFault
+abbrev pub request_in : List (List ℕ) → List WordItem → Options → Result RequestView RequestFault
 request_in words items options = elim options.of_index [ Some switch ↦ Err (NoIndex switch) | None ↦ request_by words items options ]
 
 abbrev pub request_of : List (List ℕ) → Result RequestView RequestFault
@@ -79,7 +79,7 @@ IsRequestBy wanted base request =
     (choices : List Choice) × (wanted ≡ Ok (view_of choices request)) × ChoosesAll choices base (chosen_in request.choices)
 
 -- an error that is wanted, or a type that is not there; which types there are is not said
-abbrev pub IsFaultBy : Result RequestView RequestFault → List Item → RequestFault → Type 0
+abbrev pub IsFaultBy : Result RequestView RequestFault → List WordItem → RequestFault → Type 0
 IsFaultBy wanted items fault = fault ≢ Memory → (wanted ≡ Err fault) ⊎ IsTypeIn items fault
 
 -- the request of words
@@ -89,4 +89,4 @@ IsRequest words base request = IsRequestBy (request_of words) base request
 -- the error of words
 abbrev pub IsRequestFault : List (List ℕ) → RequestFault → Type 0
 IsRequestFault words fault =
-    fault ≢ Memory → (request_of words ≡ Err fault) ⊎ ((items : List Item) × (items_of words ≡ Ok items) × IsTypeIn items fault)
+    fault ≢ Memory → (request_of words ≡ Err fault) ⊎ ((items : List WordItem) × (items_of words ≡ Ok items) × IsTypeIn items fault)

@@ -4,18 +4,18 @@ use Rattle.std.specs.List.{filter_map}
 use Rattle.cs_project.specs.declared.named.Valued.TheVariants as valued
 use Rattle.cs_project.specs.declared.settings.Task.{Task}
 use Rattle.cs_project.specs.declared.settings.Task.TheVariants as task
-use Rattle.cs_project.specs.declared.words.Item.{Item}
-use Rattle.cs_project.specs.declared.words.Item.TheVariants as item
+use Rattle.cs_project.specs.declared.words.WordItem.{WordItem}
+use Rattle.cs_project.specs.declared.words.WordItem.TheVariants as item
 use Rattle.cs_command.specs.Options.{part_of}
 use Rattle.cs_command.specs.declared.options.WordPart.{WordPart}
 use Rattle.cs_command.specs.declared.texts.Texts.{Texts}
 
 -- the value of -e
-abbrev pub given_pattern : Item → Option WordPart
+abbrev pub given_pattern : WordItem → Option WordPart
 given_pattern (item.Value valued.Pattern word from) = Some (part_of word from)
 given_pattern _ = None
 
-abbrev pub operand : Item → Option ℕ
+abbrev pub operand : WordItem → Option ℕ
 operand (item.Operand word) = Some word
 operand _ = None
 
@@ -41,7 +41,7 @@ first_as_pattern [] (word ∷ words) = texts (part_of word 0 ∷ []) words
 first_as_pattern patterns words = texts patterns words
 
 -- the values of -e and the operands, or the first operand and the others
-abbrev pub texts_of : Task → List Item → TextsView
+abbrev pub texts_of : Task → List WordItem → TextsView
 texts_of task items =
     let patterns = filter_map given_pattern items in
     let words = filter_map operand items in

@@ -7,13 +7,13 @@ ghost use Rattle.cs_listing.specs.Choices.{AddsType};
 ghost use Rattle.cs_command.specs.Choices.{ChoosesAll, hidden_if, ignored_if, depth_of, choices_by, choice_by, choice_in, IsTypeIn};
 ghost use Rattle.cs_command.specs.Values.{text_of};
 ghost use Rattle.cs_command.specs.declared.fault.RequestFault.TheVariants.{Memory, NoType};
-ghost use Rattle.cs_project.specs.declared.words.Item.TheVariants.{Value};
+ghost use Rattle.cs_project.specs.declared.words.WordItem.TheVariants.{Value};
 
 use crate::fault::RequestFault;
 use crate::options::WordPart;
 use crate::values::text_of;
 use cs_listing::Choices;
-use cs_project::{FileChoice, Item, Valued};
+use cs_project::{FileChoice, Valued, WordItem};
 
 /// Chooses by the switches and the depth.
 pub(crate) fn choose_kinds(choices: &mut Choices, files: FileChoice, depth: Option<usize>)
@@ -55,7 +55,7 @@ fn choose_depth(choices: &mut Choices, most: Option<usize>)
 pub(crate) fn choose_names(
     choices: &mut Choices,
     words: &[String],
-    items: &[Item],
+    items: &[WordItem],
 ) -> Result<(), RequestFault>
     ensures all { OnOk result (ChoosesAll (filter_map (choice_in (map string_bytes words.now)) items.now)
         (chosen_in choices.old) (chosen_in choices.new)) }
@@ -70,13 +70,13 @@ pub(crate) fn choose_names(
 }
 
 /// Chooses by an item.
-fn choose_by(choices: &mut Choices, words: &[String], item: Item) -> Result<(), RequestFault>
+fn choose_by(choices: &mut Choices, words: &[String], item: WordItem) -> Result<(), RequestFault>
     ensures chosen { OnOk result (ChoosesAll (option_to_list (choice_in (map string_bytes words.now) item))
         (chosen_in choices.old) (chosen_in choices.new)) }
     ensures fault { IfErr result (λ fault. fault ≢ Memory → IsTypeIn (item ∷ []) fault) }
 {
     match item {
-        Item::Value(valued, word, from) => {
+        WordItem::Value(valued, word, from) => {
             choose(choices, words, valued, WordPart { word, from })
         }
         _ => Ok(()),

@@ -2,7 +2,7 @@
 ghost use Rattle.std.specs.Prelude.{◌≡◌};
 ghost use Rattle.cs_command.specs.Options.{no_values, needs_index, with_value, with_option, with_item, options_of};
 
-use cs_project::{Item, Switch, Switches, Valued};
+use cs_project::{Switch, Switches, Valued, WordItem};
 
 /// A part of a word: from a byte to its end.
 #[derive(Clone, Copy, Drop)]
@@ -76,13 +76,13 @@ fn needs_index(switch: Switch) -> bool
 
 impl Options {
     /// With one more item.
-    fn add(&mut self, item: Item)
+    fn add(&mut self, item: WordItem)
         ensures { self.new ≡ with_item self.old item }
     {
         match item {
-            Item::Switch(switch) => self.turn_on(switch),
-            Item::Value(valued, word, from) => self.values.set(valued, WordPart { word, from }),
-            Item::Operand(_) => {}
+            WordItem::Switch(switch) => self.turn_on(switch),
+            WordItem::Value(valued, word, from) => self.values.set(valued, WordPart { word, from }),
+            WordItem::Operand(_) => {}
         }
     }
 
@@ -99,7 +99,7 @@ impl Options {
 }
 
 /// What the options among items ask for.
-pub(crate) fn options_of(items: &[Item]) -> Options
+pub(crate) fn options_of(items: &[WordItem]) -> Options
     ensures { result ≡ options_of items.now }
 {
     let mut options = Options {

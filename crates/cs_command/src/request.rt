@@ -12,7 +12,7 @@ use crate::patterns::pattern_in;
 use crate::texts::{Texts, needs_pattern, texts_of};
 use crate::values::{colour_in, limits_in, size_in};
 use cs_listing::Choices;
-use cs_project::{Item, ItemFault, LetterCase, Limits, Switches, case_of, read_items};
+use cs_project::{ItemFault, LetterCase, Limits, Switches, WordItem, case_of, read_items};
 use cs_syntax::Pattern;
 use std::alloc::Global;
 
@@ -59,7 +59,7 @@ fn request_by(
     alloc: Global,
     choices: Choices,
     words: &[String],
-    items: &[Item],
+    items: &[WordItem],
     options: &Options,
 ) -> Result<Request, RequestFault>
     ensures request { IfOk result (IsRequestBy

@@ -4,7 +4,7 @@ ghost use Rattle.std.specs.List.{filter_map};
 ghost use Rattle.cs_command.specs.Texts.{given_pattern, operand, needs_pattern, texts_of, shown};
 
 use crate::options::WordPart;
-use cs_project::{Item, Task, Valued};
+use cs_project::{Task, Valued, WordItem};
 use std::alloc::{AllocError, Global};
 
 /// The parts of words that are patterns, and the words that are paths.
@@ -15,27 +15,27 @@ pub(crate) struct Texts {
 }
 
 /// The value of an item that is `-e`.
-fn given_pattern(item: Item) -> Option<WordPart>
+fn given_pattern(item: WordItem) -> Option<WordPart>
     ensures { result ≡ given_pattern item }
 {
     match item {
-        Item::Value(Valued::Pattern, word, from) => Some(WordPart { word, from }),
+        WordItem::Value(Valued::Pattern, word, from) => Some(WordPart { word, from }),
         _ => None,
     }
 }
 
 /// The word of an item that is an operand.
-fn operand(item: Item) -> Option<usize>
+fn operand(item: WordItem) -> Option<usize>
     ensures { result ≡ operand item }
 {
     match item {
-        Item::Operand(word) => Some(word),
+        WordItem::Operand(word) => Some(word),
         _ => None,
     }
 }
 
 /// The values of `-e`.
-fn given_patterns(alloc: Global, items: &[Item]) -> Result<Vec<WordPart>, AllocError>
+fn given_patterns(alloc: Global, items: &[WordItem]) -> Result<Vec<WordPart>, AllocError>
     ensures { IfOk result (λ parts. parts.items ≡ filter_map given_pattern items.now) }
 {
     items
@@ -45,7 +45,7 @@ fn given_patterns(alloc: Global, items: &[Item]) -> Result<Vec<WordPart>, AllocE
 }
 
 /// The words that are operands.
-fn operands(alloc: Global, items: &[Item]) -> Result<Vec<usize>, AllocError>
+fn operands(alloc: Global, items: &[WordItem]) -> Result<Vec<usize>, AllocError>
     ensures { IfOk result (λ words. words.items ≡ filter_map operand items.now) }
 {
     items
@@ -65,7 +65,7 @@ pub(crate) fn needs_pattern(task: Task) -> bool
 }
 
 /// The patterns and the paths among items. Without `-e` the first operand is the pattern.
-pub(crate) fn texts_of(alloc: Global, task: Task, items: &[Item]) -> Result<Texts, AllocError>
+pub(crate) fn texts_of(alloc: Global, task: Task, items: &[WordItem]) -> Result<Texts, AllocError>
     ensures { IfOk result (λ texts. shown texts ≡ texts_of task items.now) }
 {
     let mut patterns = given_patterns(alloc, items)?;

@@ -7,7 +7,7 @@ use Rattle.cs_match.specs.Passes.{PassesFindEnds, ends_in}
 use Rattle.cs_match.specs.Span.{AreSpansFrom, HasNoMatchOf, IsFirstOf, IsMatchOf, IsWholeWord}
 use Rattle.cs_project.specs.Findings.{HasFinding, HasWord}
 use Rattle.cs_project.specs.Forms.{Span}
-use Rattle.cs_project.specs.declared.search.Search.{Search}
+use Rattle.cs_project.specs.declared.search.LineSearch.{LineSearch}
 
 module _ (whole : Bool) (t : Tree) (s : List ℕ) (finds : (from until : ℕ) → PassesFindEnds whole s t from until) where
   -- a match, wherever it is searched for
@@ -150,7 +150,7 @@ matches_by false t s = (
   ),
 )
 
-pub has_finding : (s : Search) (t : Tree) → s.matcher.tree ≡ t → s.finder.tree ≡ t → IsExpanded t →
+pub has_finding : (s : LineSearch) (t : Tree) → s.matcher.tree ≡ t → s.finder.tree ≡ t → IsExpanded t →
     ((whole : Bool) (line : List ℕ) (tree : Tree) (from until : ℕ) → IsExpanded tree → PassesFindEnds whole line tree from until) → HasFinding s
 unfolding HasFinding
 has_finding s t lines spans expanded finds =

@@ -8,7 +8,7 @@ use Rattle.cs_match.specs.Skipping.{NoneMatch}
 use Rattle.cs_match.specs.Span.{HasNoMatchOf, IsFirstOf, AreSpansFrom}
 use Rattle.cs_match.specs.declared.spans.Span.{Span}
 use Rattle.cs_project.specs.Findings.{Finding, HasWord, Matches, Tests, IsFoundBy, KeepsSearch}
-use Rattle.cs_project.specs.declared.search.Search.{Search}
+use Rattle.cs_project.specs.declared.search.LineSearch.{LineSearch}
 
 -- the search for a whole word
 pub word_found : (t : Tree) (line : List ℕ) (found : Option Span) →
@@ -24,7 +24,7 @@ wanted_found true wanted t line h k = (λ e _. (h refl).0 e, λ w. (h refl).1 (w
 wanted_found false wanted t line h k = (λ e w. absurd (false≢true w), λ _. k refl)
 
 -- a line that does not match
-pub missed : (search : Search) (test : List ℕ → Bool) → Tests test search → (line : List ℕ) → ¬ Matches search line → test line ≡ false
+pub missed : (search : LineSearch) (test : List ℕ → Bool) → Tests test search → (line : List ℕ) → ¬ Matches search line → test line ≡ false
 missed search test tests line miss = by_test (test line) refl
   where
     by_test : (t : Bool) → test line ≡ t → t ≡ false
@@ -32,7 +32,7 @@ missed search test tests line miss = by_test (test line) refl
     by_test false e = refl
 
 -- lines without a match of the tree do not match
-pub none_match : (search : Search) (test other : List ℕ → Bool) → Tests test search → Decides other search.matcher.tree → (lines : List (List ℕ)) →
+pub none_match : (search : LineSearch) (test other : List ℕ → Bool) → Tests test search → Decides other search.matcher.tree → (lines : List (List ℕ)) →
     NoneMatch other lines → NoneMatch test lines
 none_match search test other tests decides lines none k d low =
     let line = get_or lines k d in
@@ -42,31 +42,31 @@ none_match search test other tests decides lines none k d low =
     false_true t e f = false≢true (sym e ∙ f)
 
 -- the search is for the same
-pub same_matches : (old new : Search) → KeepsSearch old new → (line : List ℕ) → Matches old line → Matches new line
+pub same_matches : (old new : LineSearch) → KeepsSearch old new → (line : List ℕ) → Matches old line → Matches new line
 same_matches old new same line h = (
   subst (λ t. HasMatch t line) (sym same.0) h.0,
   λ whole. subst (λ t. HasWord t line) (sym same.1) (h.1 (sym same.2 ∙ whole)),
 )
 
-pub matches_same : (old new : Search) → KeepsSearch old new → (line : List ℕ) → Matches new line → Matches old line
+pub matches_same : (old new : LineSearch) → KeepsSearch old new → (line : List ℕ) → Matches new line → Matches old line
 matches_same old new same line h = (
   subst (λ t. HasMatch t line) same.0 h.0,
   λ whole. subst (λ t. HasWord t line) same.1 (h.1 (same.2 ∙ whole)),
 )
 
-pub tests_same : (old new : Search) → KeepsSearch old new → (test : List ℕ → Bool) → Tests test old → Tests test new
+pub tests_same : (old new : LineSearch) → KeepsSearch old new → (test : List ℕ → Bool) → Tests test old → Tests test new
 tests_same old new same test tests line =
     (λ e. same_matches old new same line ((tests line).0 e), λ h. (tests line).1 (matches_same old new same line h))
 
-pub found_same : (old new : Search) → KeepsSearch old new → (finding : Finding) → IsFoundBy finding old → IsFoundBy finding new
+pub found_same : (old new : LineSearch) → KeepsSearch old new → (finding : Finding) → IsFoundBy finding old → IsFoundBy finding new
 found_same old new same finding found = (
   tests_same old new same finding.has_match found.0,
   λ line. subst (λ whole. AreSpansFrom true whole new.finder.tree line 0 0 (finding.spans line)) (sym same.2)
       (subst (λ t. AreSpansFrom true old.whole t line 0 0 (finding.spans line)) (sym same.1) (found.1 line)),
 )
 
-pub keeps_again : (a b c : Search) → KeepsSearch a b → KeepsSearch b c → KeepsSearch a c
+pub keeps_again : (a b c : LineSearch) → KeepsSearch a b → KeepsSearch b c → KeepsSearch a c
 keeps_again a b c p q = (q.0 ∙ p.0, q.1 ∙ p.1, q.2 ∙ p.2, λ none. p.3 (q.3 none))
 
-pub keeps_itself : (a : Search) → KeepsSearch a a
+pub keeps_itself : (a : LineSearch) → KeepsSearch a a
 keeps_itself a = (refl, refl, refl, λ none. none)

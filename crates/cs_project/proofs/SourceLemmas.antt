@@ -14,7 +14,7 @@ use Rattle.cs_project.specs.declared.counting.Counted.{Counted}
 use Rattle.cs_project.specs.declared.form.Mode.{Mode}
 use Rattle.cs_project.specs.declared.form.Mode.TheVariants.{Lines, Counts, Names, Others}
 use Rattle.cs_project.specs.declared.rows.Page.{Page}
-use Rattle.cs_project.specs.declared.search.Search.{Search}
+use Rattle.cs_project.specs.declared.search.LineSearch.{LineSearch}
 use Rattle.cs_project.specs.declared.stream.Ended.TheVariants.{Whole}
 use Rattle.cs_project.specs.declared.stream.Streamed.{Streamed}
 
@@ -58,13 +58,13 @@ same_total page Names most a b e = ap (λ (here : Bool). name_groups page.option
 same_total page Others most a b e = ap (λ (here : Bool). name_groups page.options.now page.name.now (not here)) (alike most a b e)
 
 -- what is said of a streamed text
-abbrev pub IsSaid : Search → Search → Page → List ℕ → List ℕ → List ℕ → Streamed → List ℕ → Type 0
+abbrev pub IsSaid : LineSearch → LineSearch → Page → List ℕ → List ℕ → List ℕ → Streamed → List ℕ → Type 0
 IsSaid search search' page first given later streamed all =
     (is_whole streamed.ended ≡ true → PrintsText search search' page (first ++ all) given later
     × HasMark search search' page (first ++ all) streamed.marked)
     × BeginsText search search' page (first ++ all) given later
 
-pub streams_lines : (search search' : Search) (page : Page) (model : Option SourceModel) (first given later : List ℕ) (streamed : Streamed) →
+pub streams_lines : (search search' : LineSearch) (page : Page) (model : Option SourceModel) (first given later : List ℕ) (streamed : Streamed) →
     page.options.now.mode ≡ Lines → StreamsLines search search' page model first given later streamed →
     StreamsText search search' page model first given later streamed
 streams_lines search search' page None first given later streamed e h = tt
@@ -78,7 +78,7 @@ streams_lines search search' page (Some source) first given later streamed e h =
       (b.0, ap (λ r. given ++ r) (sym (lines_text page finding (first ++ source.bytes) e)) ∙ b.1),
 )
 
-module _ (search search' : Search) (page : Page) (first given later : List ℕ) (counted : Counted) (marked : Bool) where
+module _ (search search' : LineSearch) (page : Page) (first given later : List ℕ) (counted : Counted) (marked : Bool) where
   abbrev most : Option ℕ
   most = page.options.now.most
 
@@ -121,7 +121,7 @@ pub on_ok : {A E : Type 0} {P Q : Type 0} (answer : Result A E) → (P → Q) �
 on_ok (Ok x) f p = f p
 on_ok (Err fault) f p = tt
 
-pub prints_lines : (search search' : Search) (page : Page) (text given later : List ℕ) → page.options.now.mode ≡ Lines →
+pub prints_lines : (search search' : LineSearch) (page : Page) (text given later : List ℕ) → page.options.now.mode ≡ Lines →
     PrintsLines search search' page text given later → PrintsText search search' page text given later
 prints_lines search search' page text given later e h none finding found =
     h none finding found ∙ ap (λ r. given ++ r) (lines_text page finding text e)
@@ -132,7 +132,7 @@ if_ok (Err fault) f p = tt
 
 -- ---- a text whose first bytes were read
 
-module _ (search search' : Search) (page : Page) (binary : Bool) (given later first : List ℕ) where
+module _ (search search' : LineSearch) (page : Page) (binary : Bool) (given later first : List ℕ) where
   pub left_out : (model : Option SourceModel) → IfSome model (λ source. is_binary first ≡ is_binary source.bytes) → (is_binary first && not binary) ≡ true →
       PrintsFile search search' page binary model given given (record { marked = false; ended = Whole })
   left_out None same e = tt

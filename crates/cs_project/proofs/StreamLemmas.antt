@@ -19,7 +19,7 @@ use Rattle.cs_project.specs.Spacing.{Progress, fresh_rows, opening_of, printed_b
 use Rattle.cs_project.specs.Streams.{BeginsLines, IsReady, StreamsRows, is_whole}
 use Rattle.cs_project.specs.declared.rows.Page.{Page}
 use Rattle.cs_project.specs.declared.rows.Rows.{Rows}
-use Rattle.cs_project.specs.declared.search.Search.{Search}
+use Rattle.cs_project.specs.declared.search.LineSearch.{LineSearch}
 use Rattle.cs_project.specs.declared.stream.Streamed.{Streamed}
 use Rattle.cs_project.proofs.FindingLemmas.{found_same}
 use Rattle.cs_project.proofs.MarkLemmas.{rows_if_marked}
@@ -192,7 +192,7 @@ lines_part (b ∷ part) none = lines-last b part none
 
 -- ---- a text that is printed
 
-module _ (search search' : Search) (page : Page) (first given : List ℕ) where
+module _ (search search' : LineSearch) (page : Page) (first given : List ℕ) where
   abbrev all_printed : Finding → List ℕ → Progress
   all_printed finding all =
       printed_by page finding (progress_of (fresh_rows page) given) (text_rows page.options.now finding (first ++ all))
@@ -241,7 +241,7 @@ module _ (search search' : Search) (page : Page) (first given : List ℕ) where
       ([], sym (all_given finding all) ∙ sym (ap (λ p. p.given) (h none finding found)) ∙ sym (append-nil given'))
 
 -- what is said of a streamed text
-abbrev pub Streams : Search → Search → Page → List ℕ → List ℕ → List ℕ → Streamed → List ℕ → Type 0
+abbrev pub Streams : LineSearch → LineSearch → Page → List ℕ → List ℕ → List ℕ → Streamed → List ℕ → Type 0
 Streams search search' page first given later streamed all =
     (is_whole streamed.ended ≡ true → PrintsLines search search' page (first ++ all) given later
     × HasMark search search' page (first ++ all) streamed.marked)
@@ -249,7 +249,7 @@ Streams search search' page first given later streamed all =
 
 -- ---- a block after another
 
-module _ (first' : List ℕ) (page : Page) (given : List ℕ) (search0 search1 search2 : Search) (kept : KeepsSearch search0 search1) (keeps : KeepsSearch search1 search2) where
+module _ (first' : List ℕ) (page : Page) (given : List ℕ) (search0 search1 search2 : LineSearch) (kept : KeepsSearch search0 search1) (keeps : KeepsSearch search1 search2) where
   pub still_searched : (rows1 rows2 : Rows) (given1 given2 : List ℕ) (from1 from2 : ℕ) (text1 text2 : List ℕ) →
       StreamsRows search1 search2 rows1 rows2 given1 given2 from1 text1 text2 from2 → (all rest : List ℕ) →
       StillPrints search0 search1 page first' given rows1 given1 from1 text1 all rest → StillPrints search0 search2 page first' given rows2 given2 from2 text2 all rest
@@ -267,7 +267,7 @@ module _ (first' : List ℕ) (page : Page) (given : List ℕ) (search0 search1 s
       ∙ ap (λ (rest : List ℕ). W (lines rest)) (sym (append-nil (drop from text)))
       ∙ sym (still (keeps.3 whole) finding found)
 
-pub still_more : (search search' : Search) (page : Page) (first' given : List ℕ) (rows : Rows) (given' : List ℕ) (from : ℕ) (text bytes new : List ℕ) →
+pub still_more : (search search' : LineSearch) (page : Page) (first' given : List ℕ) (rows : Rows) (given' : List ℕ) (from : ℕ) (text bytes new : List ℕ) →
     from ≤ length text → new ≡ text ++ bytes → (all rest : List ℕ) →
     StillPrints search search' page first' given rows given' from text all (bytes ++ rest) → StillPrints search search' page first' given rows given' from new all rest
 still_more search search' page first' given rows given' from text bytes new within is all rest still whole finding found =

@@ -6,7 +6,7 @@ use Rattle.cs_project.specs.LetterCase.{case_after, case_of}
 use Rattle.cs_project.specs.declared.letter_case.LetterCase.TheVariants.{Smart as Is_smart, Exact as Is_exact}
 use Rattle.cs_project.specs.declared.named.Switch.TheVariants.{Number, Fold, Smart, Exact, Words, Count}
 use Rattle.cs_project.specs.declared.named.Valued.TheVariants.{Pattern, After, Colour}
-use Rattle.cs_project.specs.declared.words.Item.TheVariants.{Switch, Value, Operand}
+use Rattle.cs_project.specs.declared.words.WordItem.TheVariants.{Switch, Value, Operand}
 use Rattle.cs_project.specs.declared.words.ItemFault.TheVariants.{Unknown, LeftOut, ExtraValue, NoValue}
 
 letters_together : items_of (codes "-niw" ∷ codes "p" ∷ []) ≡ Ok (Switch Number ∷ Switch Fold ∷ Switch Words ∷ Operand 1 ∷ [])

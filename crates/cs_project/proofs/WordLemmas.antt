@@ -8,35 +8,35 @@ use Rattle.cs_project.specs.Words.{Reading, reading, with_value, after_letters, 
 use Rattle.cs_project.specs.declared.named.Named.TheVariants.{Switch as A_switch, Valued as A_valued, LeftOut as Is_left_out, Unknown as Is_unknown}
 use Rattle.cs_project.specs.declared.named.Switch.{Switch}
 use Rattle.cs_project.specs.declared.named.Valued.{Valued}
-use Rattle.cs_project.specs.declared.words.Item.{Item}
-use Rattle.cs_project.specs.declared.words.Item.TheVariants.{Switch as On, Value}
+use Rattle.cs_project.specs.declared.words.WordItem.{WordItem}
+use Rattle.cs_project.specs.declared.words.WordItem.TheVariants.{Switch as On, Value}
 use Rattle.cs_project.specs.declared.words.ItemFault.{ItemFault}
 use Rattle.cs_project.specs.declared.words.ItemFault.TheVariants.{Unknown, LeftOut}
 use Rattle.cs_project.specs.declared.words.Next.{Next}
 use Rattle.cs_project.specs.declared.words.Next.TheVariants.{Any, Value as A_value, Operand as An_operand}
 
-pub no_letter : (items : List Item) (index at : ℕ) (letters : List ℕ) → length letters ≡ 0 → after_letters items index at letters ≡ Ok (reading items Any)
+pub no_letter : (items : List WordItem) (index at : ℕ) (letters : List ℕ) → length letters ≡ 0 → after_letters items index at letters ≡ Ok (reading items Any)
 unfolding after_letters
 no_letter items index at [] none = refl
 no_letter items index at (letter ∷ letters) none = absurd (omega (arith, none))
 
-pub switch_letter : (items : List Item) (index at letter : ℕ) (letters : List ℕ) (switch : Switch) → letter_option letter ≡ A_switch switch
+pub switch_letter : (items : List WordItem) (index at letter : ℕ) (letters : List ℕ) (switch : Switch) → letter_option letter ≡ A_switch switch
     → after_letters items index at (letter ∷ letters) ≡ after_letters (items ++ On switch ∷ []) index (at + 1) letters
 unfolding after_letters
 switch_letter items index at letter letters switch is = rw (after_letters, is) refl
 
-pub valued_letter : (items : List Item) (index at letter : ℕ) (letters : List ℕ) (valued : Valued) → letter_option letter ≡ A_valued valued
+pub valued_letter : (items : List WordItem) (index at letter : ℕ) (letters : List ℕ) (valued : Valued) → letter_option letter ≡ A_valued valued
     → after_letters items index at (letter ∷ letters) ≡ Ok (with_value items valued index (at + 1) letters)
 unfolding after_letters
 valued_letter items index at letter letters valued is = rw (after_letters, is) refl
 
-pub valued_end : (items : List Item) (index at letter : ℕ) (letters : List ℕ) (valued : Valued) → letter_option letter ≡ A_valued valued
+pub valued_end : (items : List WordItem) (index at letter : ℕ) (letters : List ℕ) (valued : Valued) → letter_option letter ≡ A_valued valued
     → nat_eq (length letters) 0 ≡ true → after_letters items index at (letter ∷ letters) ≡ Ok (reading items (A_value valued))
 valued_end items index at letter [] valued is none = valued_letter items index at letter [] valued is
 valued_end items index at letter (byte ∷ bytes) valued is none =
     absurd (omega (arith, eqb-true (length (byte ∷ bytes)) 0 none))
 
-pub valued_rest : (items after : List Item) (index at letter : ℕ) (letters : List ℕ) (valued : Valued) → letter_option letter ≡ A_valued valued
+pub valued_rest : (items after : List WordItem) (index at letter : ℕ) (letters : List ℕ) (valued : Valued) → letter_option letter ≡ A_valued valued
     → nat_eq (length letters) 0 ≡ false → after ≡ items ++ Value valued index (at + 1) ∷ []
     → after_letters items index at (letter ∷ letters) ≡ Ok (reading after Any)
 valued_rest items after index at letter [] valued is some pushed = absurd (false≢true (sym some))
@@ -44,33 +44,33 @@ valued_rest items after index at letter (byte ∷ bytes) valued is some pushed =
     valued_letter items index at letter (byte ∷ bytes) valued is ∙ ap (λ all. Ok (reading all Any)) (sym pushed)
 
 -- one more switch, and the byte after it
-pub next_at : (items after : List Item) (index at next : ℕ) (letters : List ℕ) → after ≡ items → next ≡ at + 1
+pub next_at : (items after : List WordItem) (index at next : ℕ) (letters : List ℕ) → after ≡ items → next ≡ at + 1
     → after_letters items index (at + 1) letters ≡ after_letters after index next letters
 next_at items after index at next letters pushed is =
     ap (λ all. after_letters all index (at + 1) letters) (sym pushed) ∙ ap (λ byte. after_letters after index byte letters) (sym is)
 
-pub left_out_letter : (items : List Item) (index at letter : ℕ) (letters : List ℕ) → letter_option letter ≡ Is_left_out
+pub left_out_letter : (items : List WordItem) (index at letter : ℕ) (letters : List ℕ) → letter_option letter ≡ Is_left_out
     → after_letters items index at (letter ∷ letters) ≡ Err (LeftOut index at)
 unfolding after_letters
 left_out_letter items index at letter letters is = rw (after_letters, is) refl
 
-pub unknown_letter : (items : List Item) (index at letter : ℕ) (letters : List ℕ) → letter_option letter ≡ Is_unknown
+pub unknown_letter : (items : List WordItem) (index at letter : ℕ) (letters : List ℕ) → letter_option letter ≡ Is_unknown
     → after_letters items index at (letter ∷ letters) ≡ Err (Unknown index at)
 unfolding after_letters
 unknown_letter items index at letter letters is = rw (after_letters, is) refl
 
 -- the words of a slice, after the items so far
-abbrev pub items_of_rest : List Item → Next → ℕ → List (String Global) → Result (List Item) ItemFault
+abbrev pub items_of_rest : List WordItem → Next → ℕ → List (String Global) → Result (List WordItem) ItemFault
 items_of_rest items next index rest = items_after (reading items next) index (map string_bytes rest)
 
-pub no_word : (items : List Item) (next : Next) (index : ℕ) (rest : List (String Global)) → length rest ≡ 0
+pub no_word : (items : List WordItem) (next : Next) (index : ℕ) (rest : List (String Global)) → length rest ≡ 0
     → items_of_rest items next index rest ≡ items_at_end index items next
 unfolding items_after
 no_word items next index [] none = refl
 no_word items next index (word ∷ words) none = absurd (omega (arith, none))
 
 -- no option waits for its value
-pub all_items : (index : ℕ) (items : List Item) (next : Next) → ((valued : Valued) → next ≡ A_value valued → ⊥) → items_at_end index items next ≡ Ok items
+pub all_items : (index : ℕ) (items : List WordItem) (next : Next) → ((valued : Valued) → next ≡ A_value valued → ⊥) → items_at_end index items next ≡ Ok items
 all_items index items Any other = refl
 all_items index items (A_value valued) other = absurd (other valued refl)
 all_items index items An_operand other = refl

@@ -10,7 +10,7 @@ use Rattle.cs_project.specs.declared.counting.EndedLines.{EndedLines}
 use Rattle.cs_project.specs.declared.form.Mode.{Mode}
 use Rattle.cs_project.specs.declared.form.Mode.TheVariants.{Lines, Counts, Names, Others}
 use Rattle.cs_project.specs.declared.form.ShowOptions.{ShowOptions}
-use Rattle.cs_project.specs.declared.search.Search.{Search}
+use Rattle.cs_project.specs.declared.search.LineSearch.{LineSearch}
 
 -- no more lines need to be counted
 abbrev pub is_enough : Option ℕ → ℕ → Bool
@@ -18,7 +18,7 @@ is_enough None count = false
 is_enough (Some most) count = nat_le most count
 
 -- Lines that have ended were counted: whatever bytes follow the text, as many fewer are wanted after them.
-pub record CountsEnded (options : ShowOptions) (search : Search) (text : List ℕ) (ended : EndedLines) : Type 0 where
+pub record CountsEnded (options : ShowOptions) (search : LineSearch) (text : List ℕ) (ended : EndedLines) : Type 0 where
   pub within : ended.len ≤ length text
   pub part : HasNoNewline (drop ended.len text)
   pub size : ended.count ≤ ended.len
@@ -26,14 +26,14 @@ pub record CountsEnded (options : ShowOptions) (search : Search) (text : List �
       wanted_count options finding (text ++ more) ≡ ended.count + wanted_count options finding (drop ended.len text ++ more)
 
 -- Lines of a window were counted: whatever bytes follow it, as many fewer are wanted.
-pub record CountsWindow (options : ShowOptions) (search : Search) (text text' : List ℕ) (count : ℕ) : Type 0 where
+pub record CountsWindow (options : ShowOptions) (search : LineSearch) (text text' : List ℕ) (count : ℕ) : Type 0 where
   pub part : HasNoNewline text'
   pub size : count + length text' ≤ length text
   pub counted : (finding : Finding) (more : List ℕ) → Tests finding.has_match search →
       wanted_count options finding (text ++ more) ≡ count + wanted_count options finding (text' ++ more)
 
 -- The wanted lines were counted, up to `most`.
-abbrev pub CountsText : Search → ShowOptions → Option ℕ → Option SourceModel → List ℕ → Counted → Type 0
+abbrev pub CountsText : LineSearch → ShowOptions → Option ℕ → Option SourceModel → List ℕ → Counted → Type 0
 CountsText search options most model first counted = IfSome model (λ source.
     is_whole counted.ended ≡ true → (finding : Finding) → Tests finding.has_match search →
     at_most most counted.count ≡ at_most most (wanted_count options finding (first ++ source.bytes)))

@@ -3,7 +3,7 @@ use Rattle.std.specs.Prelude.{ℕ, ◌≡◌, ◌≤◌, ◌+◌, ◌-◌, Bool,
 use Rattle.cs_match.specs.Lines.{terminated_lines}
 use Rattle.cs_match.specs.Skipping.{AreWholeLines}
 use Rattle.cs_match.specs.declared.matcher.Line.{Line}
-use Rattle.cs_project.specs.declared.search.Search.{Search}
+use Rattle.cs_project.specs.declared.search.LineSearch.{LineSearch}
 use Rattle.cs_project.specs.Contexts.{Row, row_at, is_open, one_less}
 use Rattle.cs_project.specs.Findings.{Finding, IsFoundBy}
 use Rattle.cs_project.specs.Shown.{is_wanted}
@@ -85,14 +85,14 @@ IsNextMark rows has_match block from next = let wanted = is_wanted rows.page.opt
 
 -- Lines were searched, and `held'` are held now: what is to be printed of them and of any lines after them was printed, except
 -- what is to be printed now.
-abbrev pub Searches : Search → Search → Rows → Rows → List ℕ → List ℕ → List (List ℕ) → List (List ℕ) → List (List ℕ) → Type 0
+abbrev pub Searches : LineSearch → LineSearch → Rows → Rows → List ℕ → List ℕ → List (List ℕ) → List (List ℕ) → List (List ℕ) → Type 0
 Searches search search' old new given given' held lines held' =
     search'.stopped ≡ false → (finding : Finding) (later : List (List ℕ)) → IsFoundBy finding search →
     printed_by old.page finding (progress_of old given) (rows_by old finding held (lines ++ later))
     ≡ printed_by new.page finding (progress_of new given') (rows_by new finding held' later)
 
 -- The last lines were searched: what is to be printed of them was printed.
-abbrev pub SearchesLast : Search → Search → Rows → Rows → List ℕ → List ℕ → List (List ℕ) → List (List ℕ) → Type 0
+abbrev pub SearchesLast : LineSearch → LineSearch → Rows → Rows → List ℕ → List ℕ → List (List ℕ) → List (List ℕ) → Type 0
 SearchesLast search search' old new given given' held lines =
     search'.stopped ≡ false → (finding : Finding) → IsFoundBy finding search →
     progress_of new given' ≡ printed_by old.page finding (progress_of old given) (rows_by old finding held lines)

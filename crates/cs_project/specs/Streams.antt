@@ -10,7 +10,7 @@ use Rattle.cs_project.specs.Printed.{PrintsItem, PrintsLines, PrintsText, HasMar
 use Rattle.cs_project.specs.Shown.{between, following, is_binary, line_gap, text_groups}
 use Rattle.cs_project.specs.declared.rows.Page.{Page}
 use Rattle.cs_project.specs.declared.rows.Rows.{Rows}
-use Rattle.cs_project.specs.declared.search.Search.{Search}
+use Rattle.cs_project.specs.declared.search.LineSearch.{LineSearch}
 use Rattle.cs_project.specs.declared.stream.Ended.{Ended}
 use Rattle.cs_project.specs.declared.stream.Held.{Held}
 use Rattle.cs_project.specs.declared.stream.Ended.TheVariants.{Whole, Failed, TooLong}
@@ -53,7 +53,7 @@ pub record IsHeld (old new : Rows) (text : List ℕ) (held : Held) : Type 0 wher
   pub room : new.number ≤ old.number + held.start
 
 -- Lines of a window were searched: whatever bytes follow it, the same is to be printed after what was printed.
-abbrev pub StreamsRows : Search → Search → Rows → Rows → List ℕ → List ℕ → ℕ → List ℕ → List ℕ → ℕ → Type 0
+abbrev pub StreamsRows : LineSearch → LineSearch → Rows → Rows → List ℕ → List ℕ → ℕ → List ℕ → List ℕ → ℕ → Type 0
 StreamsRows search search' old new given given' from text text' from' =
     search'.stopped ≡ false → (finding : Finding) (more : List ℕ) → IsFoundBy finding search →
     PrintsAlike old new given given' finding (terminated_lines (take from text)) (lines (drop from text ++ more))
@@ -70,27 +70,27 @@ is_whole Failed = false
 is_whole TooLong = false
 
 -- What was printed begins what is printed for the lines of the text.
-abbrev pub BeginsLines : Search → Search → Page → List ℕ → List ℕ → List ℕ → Type 0
+abbrev pub BeginsLines : LineSearch → LineSearch → Page → List ℕ → List ℕ → List ℕ → Type 0
 BeginsLines search search' page text given later = search'.stopped ≡ false → (finding : Finding) → IsFoundBy finding search →
     (rest : List ℕ)
     × (given ++ following (line_gap page.options.now) page.begun (page_groups page finding text) ≡ later ++ rest)
 
 -- The lines of a text that begins with these bytes, and goes on with those of the source, were printed. Where a text was not
 -- read to its end, what was printed is the beginning of that.
-abbrev pub StreamsLines : Search → Search → Page → Option SourceModel → List ℕ → List ℕ → List ℕ → Streamed → Type 0
+abbrev pub StreamsLines : LineSearch → LineSearch → Page → Option SourceModel → List ℕ → List ℕ → List ℕ → Streamed → Type 0
 StreamsLines search search' page model first given later streamed = IfSome model (λ source.
     (is_whole streamed.ended ≡ true → PrintsLines search search' page (first ++ source.bytes) given later
     × HasMark search search' page (first ++ source.bytes) streamed.marked)
     × BeginsLines search search' page (first ++ source.bytes) given later)
 
 -- What was printed begins what is printed for the text.
-abbrev pub BeginsText : Search → Search → Page → List ℕ → List ℕ → List ℕ → Type 0
+abbrev pub BeginsText : LineSearch → LineSearch → Page → List ℕ → List ℕ → List ℕ → Type 0
 BeginsText search search' page text given later = search'.stopped ≡ false → (finding : Finding) → IsFoundBy finding search →
     (rest : List ℕ)
     × (given ++ following (between page.options.now) page.begun (text_groups page.options.now finding page.name.now text) ≡ later ++ rest)
 
 -- The same of the text, by its mode.
-abbrev pub StreamsText : Search → Search → Page → Option SourceModel → List ℕ → List ℕ → List ℕ → Streamed → Type 0
+abbrev pub StreamsText : LineSearch → LineSearch → Page → Option SourceModel → List ℕ → List ℕ → List ℕ → Streamed → Type 0
 StreamsText search search' page model first given later streamed = IfSome model (λ source.
     (is_whole streamed.ended ≡ true → PrintsText search search' page (first ++ source.bytes) given later
     × HasMark search search' page (first ++ source.bytes) streamed.marked)
@@ -98,6 +98,6 @@ StreamsText search search' page model first given later streamed = IfSome model 
 
 -- The text of a source was printed, if it was read to its end, or as far as it matters: a binary one prints nothing, except
 -- with -a.
-abbrev pub PrintsFile : Search → Search → Page → Bool → Option SourceModel → List ℕ → List ℕ → Streamed → Type 0
+abbrev pub PrintsFile : LineSearch → LineSearch → Page → Bool → Option SourceModel → List ℕ → List ℕ → Streamed → Type 0
 PrintsFile search search' page binary model given later streamed = IfSome model (λ source. is_whole streamed.ended ≡ true →
     PrintsItem search search' page (is_binary source.bytes && not binary) source.bytes given later streamed.marked)

@@ -6,8 +6,8 @@ use Rattle.cs_project.specs.Named.{letter_option, name_option}
 use Rattle.cs_project.specs.declared.named.Named.{Named}
 use Rattle.cs_project.specs.declared.named.Named.TheVariants.{Switch as A_switch, Valued as A_valued, LeftOut as Is_left_out, Unknown as Is_unknown}
 use Rattle.cs_project.specs.declared.named.Valued.{Valued}
-use Rattle.cs_project.specs.declared.words.Item.{Item}
-use Rattle.cs_project.specs.declared.words.Item.TheVariants.{Switch as On, Value, Operand}
+use Rattle.cs_project.specs.declared.words.WordItem.{WordItem}
+use Rattle.cs_project.specs.declared.words.WordItem.TheVariants.{Switch as On, Value, Operand}
 use Rattle.cs_project.specs.declared.words.Next.{Next}
 use Rattle.cs_project.specs.declared.words.Next.TheVariants.{Any, Value as A_value, Operand as An_operand}
 use Rattle.cs_project.specs.declared.words.ItemFault.{ItemFault}
@@ -15,19 +15,19 @@ use Rattle.cs_project.specs.declared.words.ItemFault.TheVariants.{Unknown, LeftO
 
 -- The items of the words so far, and what the next word is.
 pub record Reading : Type 0 where
-  pub items : List Item
+  pub items : List WordItem
   pub next : Next
 
-abbrev pub reading : List Item → Next → Reading
+abbrev pub reading : List WordItem → Next → Reading
 reading items next = record { items = items; next = next }
 
 -- an option's value is the rest of its word, or the next word if nothing is left
-abbrev pub with_value : List Item → Valued → ℕ → ℕ → List ℕ → Reading
+abbrev pub with_value : List WordItem → Valued → ℕ → ℕ → List ℕ → Reading
 with_value items valued index at [] = reading items (A_value valued)
 with_value items valued index at (byte ∷ bytes) = reading (items ++ Value valued index at ∷ []) Any
 
 -- after the letters at the byte `at` of the word at `index`: switches, and at the end possibly an option with a value
-unfoldable pub after_letters : List Item → ℕ → ℕ → List ℕ → Result Reading ItemFault
+unfoldable pub after_letters : List WordItem → ℕ → ℕ → List ℕ → Result Reading ItemFault
 after_letters items index at [] = Ok (reading items Any)
 after_letters items index at (letter ∷ letters) =
     elim (letter_option letter) [
@@ -38,21 +38,21 @@ after_letters items index at (letter ∷ letters) =
     ]
 
 -- after a name without `=`
-abbrev pub after_name : List Item → ℕ → Named → Result Reading ItemFault
+abbrev pub after_name : List WordItem → ℕ → Named → Result Reading ItemFault
 after_name items index (A_switch switch) = Ok (reading (items ++ On switch ∷ []) Any)
 after_name items index (A_valued valued) = Ok (reading items (A_value valued))
 after_name items index Is_left_out = Err (LeftOut index 2)
 after_name items index Is_unknown = Err (Unknown index 2)
 
 -- after a name with `=`, whose value begins at the byte `at`
-abbrev pub after_equals : List Item → ℕ → ℕ → Named → Result Reading ItemFault
+abbrev pub after_equals : List WordItem → ℕ → ℕ → Named → Result Reading ItemFault
 after_equals items index at (A_switch switch) = Err (ExtraValue index)
 after_equals items index at (A_valued valued) = Ok (reading (items ++ Value valued index at ∷ []) Any)
 after_equals items index at Is_left_out = Err (LeftOut index 2)
 after_equals items index at Is_unknown = Err (Unknown index 2)
 
 -- after `--text`
-abbrev pub after_long : List Item → ℕ → List ℕ → Result Reading ItemFault
+abbrev pub after_long : List WordItem → ℕ → List ℕ → Result Reading ItemFault
 after_long items index text =
     elim (position (λ byte. byte == 61) text) [
       | Some offset ↦ after_equals items index (offset + 3) (name_option (before_first (λ byte. byte == 61) text))
@@ -60,7 +60,7 @@ after_long items index text =
     ]
 
 -- after a word that is no value and does not follow `--`: a word is an option if it is a dash and more
-abbrev pub after_any : List Item → ℕ → List ℕ → Result Reading ItemFault
+abbrev pub after_any : List WordItem → ℕ → List ℕ → Result Reading ItemFault
 after_any items index word =
     if bytes_eq word (codes "--") then Ok (reading items An_operand)
     else if starts_with nat_eq word (codes "--") then after_long items index (drop 2 word)
@@ -79,13 +79,13 @@ after_word before index word =
     ]
 
 -- at the end no option waits for its value
-abbrev pub items_at_end : ℕ → List Item → Next → Result (List Item) ItemFault
+abbrev pub items_at_end : ℕ → List WordItem → Next → Result (List WordItem) ItemFault
 items_at_end count items Any = Ok items
 items_at_end count items (A_value valued) = Err (NoValue count)
 items_at_end count items An_operand = Ok items
 
 -- after the words from `index` on
-unfoldable pub items_after : Reading → ℕ → List (List ℕ) → Result (List Item) ItemFault
+unfoldable pub items_after : Reading → ℕ → List (List ℕ) → Result (List WordItem) ItemFault
 items_after before index [] = items_at_end index before.items before.next
 items_after before index (word ∷ words) =
     elim (after_word before index word) [
@@ -94,5 +94,5 @@ items_after before index (word ∷ words) =
     ]
 
 -- the items of the words, or the first error from the left
-abbrev pub items_of : List (List ℕ) → Result (List Item) ItemFault
+abbrev pub items_of : List (List ℕ) → Result (List WordItem) ItemFault
 items_of words = items_after (reading [] Any) 0 words

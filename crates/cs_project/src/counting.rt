@@ -7,7 +7,7 @@ ghost use Rattle.cs_project.specs.Findings.{KeepsSearch};
 ghost use Rattle.cs_project.specs.Streams.{is_failed};
 
 use crate::form::ShowOptions;
-use crate::search::Search;
+use crate::search::LineSearch;
 use crate::stream::{Ended, ended_len, unread};
 use crate::text::{ended_count, last_count};
 use crate::window::Window;
@@ -35,7 +35,7 @@ fn count_ended(
     options: &ShowOptions,
     text: &[u8],
     scanned: usize,
-    search: &mut Search<'_>,
+    search: &mut LineSearch<'_>,
 ) -> EndedLines
     requires within { scanned ≤ length text.now }
     requires scanned { HasNoNewline (take scanned text.now) }
@@ -55,7 +55,7 @@ fn count_window(
     options: &ShowOptions,
     window: &mut Window,
     scanned: usize,
-    search: &mut Search<'_>,
+    search: &mut LineSearch<'_>,
 ) -> u64
     requires within { scanned ≤ length window.old.text.items }
     requires scanned { HasNoNewline (take scanned window.old.text.items) }
@@ -85,7 +85,7 @@ pub(crate) fn stream_count<R: Source>(
     most: Option<u64>,
     input: &mut R,
     window: &mut Window,
-    search: &mut Search<'_>,
+    search: &mut LineSearch<'_>,
 ) -> Result<Counted, AllocError>
     requires room { length window.old.text.items + window.old.left < 2 ^ 63 }
     ensures count { IfOk result (CountsText search.old options.now most (R.model input.old)

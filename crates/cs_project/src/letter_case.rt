@@ -3,7 +3,7 @@ ghost use Rattle.std.specs.Prelude.{◌≡◌};
 ghost use Rattle.cs_project.specs.LetterCase.{case_set, case_of};
 
 use crate::named::Switch;
-use crate::words::Item;
+use crate::words::WordItem;
 
 /// Whether a letter matches both of its cases.
 #[derive(Clone, Copy, Drop)]
@@ -17,7 +17,7 @@ pub enum LetterCase {
 }
 
 /// The last of `-i`, `-S` and `-s` holds.
-pub fn case_of(items: &[Item]) -> LetterCase
+pub fn case_of(items: &[WordItem]) -> LetterCase
     ensures { result ≡ case_of items.now }
 {
     let mut case = LetterCase::Exact;
@@ -30,13 +30,13 @@ pub fn case_of(items: &[Item]) -> LetterCase
 }
 
 /// The case after one more item.
-fn case_set(before: LetterCase, item: Item) -> LetterCase
+fn case_set(before: LetterCase, item: WordItem) -> LetterCase
     ensures { result ≡ case_set before item }
 {
     match item {
-        Item::Switch(Switch::Fold) => LetterCase::Fold,
-        Item::Switch(Switch::Smart) => LetterCase::Smart,
-        Item::Switch(Switch::Exact) => LetterCase::Exact,
+        WordItem::Switch(Switch::Fold) => LetterCase::Fold,
+        WordItem::Switch(Switch::Smart) => LetterCase::Smart,
+        WordItem::Switch(Switch::Exact) => LetterCase::Exact,
         _ => before,
     }
 }

@@ -12,7 +12,7 @@ const BUDGET: usize = 1 << 24;
 
 /// A program with the memory of its searches.
 #[derive(Drop)]
-pub struct Search<'a> {
+pub struct LineSearch<'a> {
     pub(crate) matcher: Matcher<'a>,
     pub(crate) finder: Finder<'a>,
     /// Only a line with a match that is a whole word matches, and only such matches are shown
@@ -27,7 +27,7 @@ pub struct Search<'a> {
     ghost within: { count ≤ vec_len spans },
 }
 
-impl<'a> Search<'a> {
+impl<'a> LineSearch<'a> {
     ghost use Rattle.std.specs.Prelude.{◌↔◌, ℕ, Bool, List, IsTrue, true, false, length, drop, count_by, IfOk, IfSome, OnOk};
     ghost use Rattle.cs_match.specs.Lines.{terminated_lines};
     ghost use Rattle.cs_match.specs.Skipping.{AreWholeLines, IsLineAfter};
@@ -36,7 +36,11 @@ impl<'a> Search<'a> {
     ghost use Rattle.cs_project.specs.Ordered.{AreOrdered, pairs};
 
     /// A search for the program; if `whole`, for its matches that are whole words.
-    pub fn new(alloc: Global, program: &'a Program, whole: bool) -> Result<Search<'a>, AllocError>
+    pub fn new(
+        alloc: Global,
+        program: &'a Program,
+        whole: bool,
+    ) -> Result<LineSearch<'a>, AllocError>
         ensures lines { IfOk result (λ search. search.matcher.tree ≡ program.now) }
         ensures spans { IfOk result (λ search. search.finder.tree ≡ program.now) }
         ensures whole { IfOk result (λ search. search.whole ≡ whole) }
@@ -48,7 +52,7 @@ impl<'a> Search<'a> {
         let matcher = Matcher::new(alloc, program)?;
         let pass = Pass::new(alloc, program)?;
         let finder = Finder::resume(program, pass);
-        Ok(Search {
+        Ok(LineSearch {
             matcher,
             finder,
             whole,

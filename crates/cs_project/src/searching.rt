@@ -13,13 +13,13 @@ ghost use Rattle.cs_project.specs.Shown.{is_wanted};
 use crate::form::ShowOptions;
 use crate::lines::line_end;
 use crate::rows::Rows;
-use crate::search::Search;
+use crate::search::LineSearch;
 use cs_match::Line;
 use cs_output::Output;
 use std::alloc::AllocError;
 
 /// Whether a line is wanted: it matches, or with `-v` does not.
-pub(crate) fn is_wanted(options: &ShowOptions, line: &[u8], search: &mut Search<'_>) -> bool
+pub(crate) fn is_wanted(options: &ShowOptions, line: &[u8], search: &mut LineSearch<'_>) -> bool
     ensures wanted { (test : List ℕ → Bool) → Tests test search.old →
         result ≡ is_wanted options.now test line.now }
     ensures same { KeepsSearch search.old search.new }
@@ -29,7 +29,7 @@ pub(crate) fn is_wanted(options: &ShowOptions, line: &[u8], search: &mut Search<
 }
 
 /// The first line at or after `from` that has no match.
-fn next_miss(block: &[u8], from: usize, search: &mut Search<'_>) -> Option<Line>
+fn next_miss(block: &[u8], from: usize, search: &mut LineSearch<'_>) -> Option<Line>
     requires within { from ≤ length block.now }
     requires whole { AreWholeLines (drop from block.now) }
     ensures line { IfSome result (λ line. IsLineAfter block.now from line.start line.end) }
@@ -53,7 +53,7 @@ pub(crate) fn next_wanted(
     options: &ShowOptions,
     block: &[u8],
     from: usize,
-    search: &mut Search<'_>,
+    search: &mut LineSearch<'_>,
 ) -> Option<Line>
     requires within { from ≤ length block.now }
     requires whole { AreWholeLines (drop from block.now) }
@@ -81,7 +81,7 @@ impl Rows<'_> {
     }
 
     /// The first line at or after `from` that is marked.
-    fn next_mark(&self, block: &[u8], from: usize, search: &mut Search<'_>) -> Option<Line>
+    fn next_mark(&self, block: &[u8], from: usize, search: &mut LineSearch<'_>) -> Option<Line>
         requires within { from ≤ length block.now }
         requires whole { AreWholeLines (drop from block.now) }
         ensures line { IfSome result (λ line. IsLineAfter block.now from line.start line.end ×
@@ -102,7 +102,7 @@ impl Rows<'_> {
         &mut self,
         block: &[u8],
         from: usize,
-        search: &mut Search<'_>,
+        search: &mut LineSearch<'_>,
         out: &mut O,
     ) -> Result<usize, AllocError>
         requires within { from ≤ length block.now }
@@ -135,7 +135,7 @@ impl Rows<'_> {
     }
 
     /// Whether a line is marked.
-    fn is_marked(&self, line: &[u8], search: &mut Search<'_>) -> bool
+    fn is_marked(&self, line: &[u8], search: &mut LineSearch<'_>) -> bool
         ensures marked { (test : List ℕ → Bool) → Tests test search.old →
             result ≡ (is_wanted self.now.page.options.now test line.now && is_open self.now.most) }
         ensures may { result ≡ true → is_open self.now.most ≡ true }
@@ -153,7 +153,7 @@ impl Rows<'_> {
         &mut self,
         held: &[u8],
         last: &[u8],
-        search: &mut Search<'_>,
+        search: &mut LineSearch<'_>,
         out: &mut O,
     ) -> Result<(), AllocError>
         requires whole { AreWholeLines held.now }

@@ -11,7 +11,7 @@ use crate::binary::is_binary;
 use crate::counting::stream_count;
 use crate::form::{Mode, ShowOptions};
 use crate::rows::Page;
-use crate::search::Search;
+use crate::search::LineSearch;
 use crate::stream::{Ended, Streamed, stream_lines, unread};
 use crate::window::Window;
 use cs_output::Output;
@@ -58,7 +58,7 @@ fn stream_total<R: Source, O: Output>(
     page: &Page<'_>,
     input: &mut R,
     window: &mut Window,
-    search: &mut Search<'_>,
+    search: &mut LineSearch<'_>,
     out: &mut O,
 ) -> Result<Streamed, AllocError>
     requires room { length window.old.text.items + window.old.left < 2 ^ 63 }
@@ -92,7 +92,7 @@ pub(crate) fn print_source<R: Source, O: Output>(
     page: &Page<'_>,
     input: &mut R,
     window: &mut Window,
-    search: &mut Search<'_>,
+    search: &mut LineSearch<'_>,
     out: &mut O,
 ) -> Result<Streamed, AllocError>
     requires room { 1 + length window.old.text.items + window.old.left < 2 ^ 63 }
@@ -125,7 +125,7 @@ pub fn print_file<R: Source, O: Output>(
     binary: bool,
     input: &mut R,
     window: &mut Window,
-    search: &mut Search<'_>,
+    search: &mut LineSearch<'_>,
     out: &mut O,
 ) -> Result<Streamed, AllocError>
     ensures text { IfOk result (PrintsFile search.old search.new page.now binary (R.model input.old)

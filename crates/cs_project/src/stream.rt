@@ -12,7 +12,7 @@ ghost use Rattle.cs_project.specs.Streams.{EndsAt, IsHeld, IsReady, IsTrimmed, S
 
 use crate::lines::{last_lines, line_count};
 use crate::rows::{Page, Rows};
-use crate::search::Search;
+use crate::search::LineSearch;
 use crate::window::{ReadFault, Window};
 use cs_output::Output;
 use cs_tree::Source;
@@ -91,7 +91,7 @@ impl Rows<'_> {
         text: &[u8],
         from: usize,
         scanned: usize,
-        search: &mut Search<'_>,
+        search: &mut LineSearch<'_>,
         out: &mut O,
     ) -> Result<Held, AllocError>
         requires ready { IsReady self.old text.now from scanned }
@@ -123,7 +123,7 @@ impl Rows<'_> {
         window: &mut Window,
         from: usize,
         scanned: usize,
-        search: &mut Search<'_>,
+        search: &mut LineSearch<'_>,
         out: &mut O,
     ) -> Result<usize, AllocError>
         requires ready { IsReady self.old window.old.text.items from scanned }
@@ -147,7 +147,7 @@ impl Rows<'_> {
         &mut self,
         text: &[u8],
         from: usize,
-        search: &mut Search<'_>,
+        search: &mut LineSearch<'_>,
         out: &mut O,
     ) -> Result<(), AllocError>
         requires within { from ≤ length text.now }
@@ -168,7 +168,7 @@ pub(crate) fn stream_lines<R: Source, O: Output>(
     page: &Page<'_>,
     input: &mut R,
     window: &mut Window,
-    search: &mut Search<'_>,
+    search: &mut LineSearch<'_>,
     out: &mut O,
 ) -> Result<Streamed, AllocError>
     requires room { 1 + length window.old.text.items + window.old.left < 2 ^ 63 }

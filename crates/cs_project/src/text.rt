@@ -11,7 +11,7 @@ ghost use Rattle.cs_project.specs.Printed.{PrintsText, HasMark, PrintsLines};
 use crate::form::{Mode, ShowOptions};
 use crate::lines::line_count;
 use crate::rows::{Page, Rows};
-use crate::search::Search;
+use crate::search::LineSearch;
 use crate::searching::{is_wanted, next_wanted};
 use cs_match::whole_lines_len;
 use cs_output::Output;
@@ -22,7 +22,7 @@ use std::alloc::AllocError;
 pub fn print_lines<O: Output>(
     page: &Page<'_>,
     text: &[u8],
-    search: &mut Search<'_>,
+    search: &mut LineSearch<'_>,
     out: &mut O,
 ) -> Result<bool, AllocError>
     ensures lines { OnOk result (PrintsLines search.old search.new page.now text.now (O.given out.old)
@@ -39,7 +39,7 @@ pub fn print_lines<O: Output>(
 }
 
 /// How many lines of a block of whole lines are wanted.
-pub(crate) fn ended_count(options: &ShowOptions, block: &[u8], search: &mut Search<'_>) -> u64
+pub(crate) fn ended_count(options: &ShowOptions, block: &[u8], search: &mut LineSearch<'_>) -> u64
     requires whole { AreWholeLines block.now }
     ensures count { (finding : Finding) → Tests finding.has_match search.old →
         result ≡ count_by (is_wanted options.now finding.has_match) (terminated_lines block.now) }
@@ -54,7 +54,7 @@ pub(crate) fn ended_count(options: &ShowOptions, block: &[u8], search: &mut Sear
 }
 
 /// How many lines are wanted of the bytes after the last newline.
-pub(crate) fn last_count(options: &ShowOptions, last: &[u8], search: &mut Search<'_>) -> u64
+pub(crate) fn last_count(options: &ShowOptions, last: &[u8], search: &mut LineSearch<'_>) -> u64
     ensures count { (finding : Finding) → Tests finding.has_match search.old →
         result ≡ count_by (is_wanted options.now finding.has_match) (last_line last.now) }
     ensures bound { result ≤ 1 }
@@ -71,7 +71,7 @@ pub(crate) fn last_count(options: &ShowOptions, last: &[u8], search: &mut Search
 }
 
 /// How many lines of a text are wanted.
-fn count_wanted(options: &ShowOptions, text: &[u8], search: &mut Search<'_>) -> u64
+fn count_wanted(options: &ShowOptions, text: &[u8], search: &mut LineSearch<'_>) -> u64
     ensures count { (finding : Finding) → Tests finding.has_match search.old →
         result ≡ wanted_count options.now finding text.now }
     ensures same { KeepsSearch search.old search.new }
@@ -82,7 +82,7 @@ fn count_wanted(options: &ShowOptions, text: &[u8], search: &mut Search<'_>) -> 
 }
 
 /// Whether a line of a text is wanted.
-fn has_wanted(options: &ShowOptions, text: &[u8], search: &mut Search<'_>) -> bool
+fn has_wanted(options: &ShowOptions, text: &[u8], search: &mut LineSearch<'_>) -> bool
     ensures some { (finding : Finding) → Tests finding.has_match search.old →
         result ≡ nat_lt 0 (wanted_count options.now finding text.now) }
     ensures same { KeepsSearch search.old search.new }
@@ -136,7 +136,7 @@ impl Page<'_> {
     }
 
     /// Whether a line of a text is marked.
-    fn has_mark(&self, text: &[u8], search: &mut Search<'_>) -> bool
+    fn has_mark(&self, text: &[u8], search: &mut LineSearch<'_>) -> bool
         ensures some { (finding : Finding) → Tests finding.has_match search.old →
             result ≡ nat_lt 0 (count_of self.now.options.now finding text.now) }
         ensures same { KeepsSearch search.old search.new }
@@ -152,7 +152,7 @@ impl Page<'_> {
 pub fn print_text<O: Output>(
     page: &Page<'_>,
     text: &[u8],
-    search: &mut Search<'_>,
+    search: &mut LineSearch<'_>,
     out: &mut O,
 ) -> Result<bool, AllocError>
     ensures text { OnOk result (PrintsText search.old search.new page.now text.now (O.given out.old)

@@ -10,7 +10,7 @@ use std::alloc::{AllocError, AllocFailed, Global};
 /// An option or an operand. Words are given by their index, a value by its word and its first byte
 /// there.
 #[derive(Clone, Copy, Drop)]
-pub enum Item {
+pub enum WordItem {
     Switch(Switch),
     Value(Valued, usize, usize),
     Operand(usize),
@@ -66,7 +66,7 @@ impl<T: Drop> From<AllocFailed<T>> for ItemFault {
 }
 
 /// Reads the words as items, in their order, or finds the first error.
-pub fn read_items(alloc: Global, words: &[String]) -> Result<Vec<Item>, ItemFault>
+pub fn read_items(alloc: Global, words: &[String]) -> Result<Vec<WordItem>, ItemFault>
     ensures items { IfOk result (λ items. items_of (map string_bytes words.now) ≡ Ok items.items) }
     ensures fault { IfErr result
         (λ fault. fault ≢ Memory → items_of (map string_bytes words.now) ≡ Err fault) }
@@ -87,7 +87,12 @@ pub fn read_items(alloc: Global, words: &[String]) -> Result<Vec<Item>, ItemFaul
 }
 
 /// Reads one more word.
-fn read_word(items: &mut Vec<Item>, next: Next, index: usize, word: &str) -> Result<Next, ItemFault>
+fn read_word(
+    items: &mut Vec<WordItem>,
+    next: Next,
+    index: usize,
+    word: &str,
+) -> Result<Next, ItemFault>
     ensures reads { IfOk result
         (λ after. after_word (reading items.old.items next) index word.now
         ≡ Ok (reading items.new.items after)) }
@@ -96,11 +101,11 @@ fn read_word(items: &mut Vec<Item>, next: Next, index: usize, word: &str) -> Res
 {
     match next {
         Next::Value(valued) => {
-            items.push(Item::Value(valued, index, 0))?;
+            items.push(WordItem::Value(valued, index, 0))?;
             Ok(Next::Any)
         }
         Next::Operand => {
-            items.push(Item::Operand(index))?;
+            items.push(WordItem::Operand(index))?;
             Ok(Next::Operand)
         }
         Next::Any => read_any(items, index, word),
@@ -108,7 +113,7 @@ fn read_word(items: &mut Vec<Item>, next: Next, index: usize, word: &str) -> Res
 }
 
 /// Reads a word that is an option or an operand.
-fn read_any(items: &mut Vec<Item>, index: usize, word: &str) -> Result<Next, ItemFault>
+fn read_any(items: &mut Vec<WordItem>, index: usize, word: &str) -> Result<Next, ItemFault>
     ensures reads { IfOk result
         (λ after. after_any items.old.items index word.now ≡ Ok (reading items.new.items after)) }
     ensures fault { IfErr result
@@ -123,14 +128,14 @@ fn read_any(items: &mut Vec<Item>, index: usize, word: &str) -> Result<Next, Ite
     match word.strip_prefix("-") {
         Some(letters) if word != "-" => read_letters(items, index, letters.as_bytes()),
         _ => {
-            items.push(Item::Operand(index))?;
+            items.push(WordItem::Operand(index))?;
             Ok(Next::Any)
         }
     }
 }
 
 /// Reads a name, and its value if it has one.
-fn read_long(items: &mut Vec<Item>, index: usize, text: &str) -> Result<Next, ItemFault>
+fn read_long(items: &mut Vec<WordItem>, index: usize, text: &str) -> Result<Next, ItemFault>
     ensures reads { IfOk result
         (λ after. after_long items.old.items index text.now ≡ Ok (reading items.new.items after)) }
     ensures fault { IfErr result
@@ -143,7 +148,7 @@ fn read_long(items: &mut Vec<Item>, index: usize, text: &str) -> Result<Next, It
 }
 
 /// Reads a name without `=`.
-fn read_name(items: &mut Vec<Item>, index: usize, named: Named) -> Result<Next, ItemFault>
+fn read_name(items: &mut Vec<WordItem>, index: usize, named: Named) -> Result<Next, ItemFault>
     ensures reads { IfOk result
         (λ after. after_name items.old.items index named ≡ Ok (reading items.new.items after)) }
     ensures fault { IfErr result
@@ -151,7 +156,7 @@ fn read_name(items: &mut Vec<Item>, index: usize, named: Named) -> Result<Next, 
 {
     match named {
         Named::Switch(switch) => {
-            items.push(Item::Switch(switch))?;
+            items.push(WordItem::Switch(switch))?;
             Ok(Next::Any)
         }
         Named::Valued(valued) => Ok(Next::Value(valued)),
@@ -162,7 +167,7 @@ fn read_name(items: &mut Vec<Item>, index: usize, named: Named) -> Result<Next, 
 
 /// Reads a name with `=`, whose value begins at the byte `at`.
 fn read_equals(
-    items: &mut Vec<Item>,
+    items: &mut Vec<WordItem>,
     index: usize,
     at: usize,
     named: Named,
@@ -175,7 +180,7 @@ fn read_equals(
     match named {
         Named::Switch(_) => Err(ItemFault::ExtraValue(index)),
         Named::Valued(valued) => {
-            items.push(Item::Value(valued, index, at))?;
+            items.push(WordItem::Value(valued, index, at))?;
             Ok(Next::Any)
         }
         Named::LeftOut => Err(ItemFault::LeftOut(index, 2)),
@@ -184,7 +189,7 @@ fn read_equals(
 }
 
 /// Reads letters. The first is the second byte of its word.
-fn read_letters(items: &mut Vec<Item>, index: usize, letters: &[u8]) -> Result<Next, ItemFault>
+fn read_letters(items: &mut Vec<WordItem>, index: usize, letters: &[u8]) -> Result<Next, ItemFault>
     ensures reads { IfOk result
         (λ after. after_letters items.old.items index 1 letters.now ≡ Ok (reading items.new.items after)) }
     ensures fault { IfErr result
@@ -194,10 +199,10 @@ fn read_letters(items: &mut Vec<Item>, index: usize, letters: &[u8]) -> Result<N
     'letters: while let Some((letter, behind)) = rest.split_first() {
         let at = 1 + (letters.len() - rest.len());
         match letter_option(*letter) {
-            Named::Switch(switch) => items.push(Item::Switch(switch))?,
+            Named::Switch(switch) => items.push(WordItem::Switch(switch))?,
             Named::Valued(valued) if behind.is_empty() => return Ok(Next::Value(valued)),
             Named::Valued(valued) => {
-                items.push(Item::Value(valued, index, at + 1))?;
+                items.push(WordItem::Value(valued, index, at + 1))?;
                 return Ok(Next::Any);
             }
             Named::LeftOut => return Err(ItemFault::LeftOut(index, at)),

@@ -6,8 +6,10 @@
 //! `Node`: a tree of byte sets, character sets, sequences, alternations, repeats and empty-width
 //! assertions. Contracts see it as a plain tree of `specs/`, without capacities and pointers, so
 //! that "the tree" has one meaning. A `Pattern` is a tree of bounded weight, which bounds the
-//! memory of everything above it. A `ByteSet` is a bitmap of 256 bits in four integers; contracts
-//! see the list of its 256 membership values.
+//! memory of everything above it. `Pattern::either` joins the branches of two trees, `whole_line`
+//! puts `^` before a tree and `$` after it, and `literal` is the sequence of the characters of a
+//! text, which are not parsed (`specs/Joining.antt`). A `ByteSet` is a bitmap of 256 bits in four
+//! integers; contracts see the list of its 256 membership values.
 //!
 //! A dot, a class or a negated class with a non-ASCII character is a set of characters. A `CharSet`
 //! is a canonical list of ranges: the ranges are sorted and maximal, and d7ff and e000 are

@@ -10,7 +10,7 @@ use Rattle.cs_project.specs.Findings.{Finding, KeepsSearch, Tests}
 use Rattle.cs_project.specs.Shown.{at_most, is_wanted, wanted_count}
 use Rattle.cs_project.specs.Streams.{is_whole}
 use Rattle.cs_project.specs.declared.form.ShowOptions.{ShowOptions}
-use Rattle.cs_project.specs.declared.search.Search.{Search}
+use Rattle.cs_project.specs.declared.search.LineSearch.{LineSearch}
 use Rattle.cs_project.proofs.FindingLemmas.{tests_same, keeps_again, keeps_itself}
 use Rattle.cs_project.proofs.StreamLemmas.{carries_here, carries_on, carries_end, carries_any, if_any, lines_part}
 use Rattle.cs_project.proofs.counting.stream_count.Goals as goal
@@ -34,17 +34,17 @@ pieces-init g c = record {
 }
 
 -- the lines that are wanted, after so many of them were counted
-abbrev Counts : ShowOptions → Search → List ℕ → ℕ → List ℕ → List ℕ → List ℕ → Type 0
+abbrev Counts : ShowOptions → LineSearch → List ℕ → ℕ → List ℕ → List ℕ → List ℕ → Type 0
 Counts options search first count text all rest = (finding : Finding) → Tests finding.has_match search →
     wanted_count options finding (first ++ all) ≡ count + wanted_count options finding (text ++ rest)
 
-counted : (options : ShowOptions) (search0 search1 : Search) (first : List ℕ) (count more : ℕ) (text text' : List ℕ) → KeepsSearch search0 search1 →
+counted : (options : ShowOptions) (search0 search1 : LineSearch) (first : List ℕ) (count more : ℕ) (text text' : List ℕ) → KeepsSearch search0 search1 →
     CountsWindow options search1 text text' more → (all rest : List ℕ) → Counts options search0 first count text all rest →
     Counts options search0 first (count + more) text' all rest
 counted options search0 search1 first count more text text' kept window all rest h finding tests =
     omega (arith, h finding tests, window.counted finding rest (tests_same search0 search1 kept finding.has_match tests))
 
-more_read : (options : ShowOptions) (search : Search) (first : List ℕ) (count : ℕ) (text bytes new : List ℕ) → new ≡ text ++ bytes → (all rest : List ℕ) →
+more_read : (options : ShowOptions) (search : LineSearch) (first : List ℕ) (count : ℕ) (text bytes new : List ℕ) → new ≡ text ++ bytes → (all rest : List ℕ) →
     Counts options search first count text all (bytes ++ rest) → Counts options search first count new all rest
 more_read options search first count text bytes new is all rest h finding tests =
     h finding tests

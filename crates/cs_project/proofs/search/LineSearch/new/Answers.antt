@@ -1,5 +1,5 @@
 use Rattle.cs_project.proofs.ExistenceLemmas.{has_finding}
-use Rattle.cs_project.proofs.search.Search.new.Goals as goal
+use Rattle.cs_project.proofs.search.LineSearch.new.Goals as goal
 
 pub returns-clause-exists : goal.returns-clause-exists
 returns-clause-exists c =

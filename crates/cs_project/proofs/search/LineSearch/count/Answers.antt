@@ -4,7 +4,7 @@ use Rattle.cs_match.proofs.LinesLemmas.{lines_within}
 use Rattle.cs_match.proofs.WholeLineLemmas.{whole_from}
 use Rattle.cs_project.proofs.CountLemmas.{count_next, count_none, size_next}
 use Rattle.cs_project.proofs.FindingLemmas.{keeps_again, tests_same}
-use Rattle.cs_project.proofs.search.Search.count.Goals as goal
+use Rattle.cs_project.proofs.search.LineSearch.count.Goals as goal
 
 pub overflow_add-count : goal.overflow_add-count
 overflow_add-count c =

@@ -3,7 +3,7 @@ use Rattle.std.specs.List.{count_by}
 use Rattle.cs_match.specs.Lines.{terminated_lines}
 use Rattle.cs_match.specs.Skipping.{AreWholeLines}
 use Rattle.cs_project.specs.Findings.{Tests, KeepsSearch}
-use Rattle.cs_project.proofs.search.Search.count.Given as goal
+use Rattle.cs_project.proofs.search.LineSearch.count.Given as goal
 
 abbrev pub invariant-lines : goal.invariant-lines
 invariant-lines l = record {

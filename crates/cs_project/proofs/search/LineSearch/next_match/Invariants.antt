@@ -2,7 +2,7 @@ use Rattle.std.proofs.Common.{◌≤◌, ◌-◌, ℕ, Bool, List, length, take,
 use Rattle.cs_match.specs.Lines.{terminated_lines}
 use Rattle.cs_match.specs.Skipping.{AreWholeLines, NoneMatch}
 use Rattle.cs_project.specs.Findings.{Tests, KeepsSearch}
-use Rattle.cs_project.proofs.search.Search.next_match.Given as goal
+use Rattle.cs_project.proofs.search.LineSearch.next_match.Given as goal
 
 abbrev pub invariant-lines : goal.invariant-lines
 invariant-lines l = record {

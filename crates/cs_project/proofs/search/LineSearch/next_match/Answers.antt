@@ -10,10 +10,10 @@ use Rattle.cs_match.specs.Skipping.{AreWholeLines, NoneMatch}
 use Rattle.cs_match.proofs.SkippedLineLemmas.{whole_none}
 use Rattle.cs_match.proofs.WholeLineLemmas.{whole_from, whole_line, whole_between, none_between, terminated_line}
 use Rattle.cs_project.specs.Findings.{KeepsSearch, Tests}
-use Rattle.cs_project.specs.declared.search.Search.{Search}
+use Rattle.cs_project.specs.declared.search.LineSearch.{LineSearch}
 use Rattle.cs_project.proofs.BlockLemmas.{lines_from}
 use Rattle.cs_project.proofs.FindingLemmas.{keeps_again, keeps_itself, matches_same, missed, none_match, tests_same}
-use Rattle.cs_project.proofs.search.Search.next_match.Goals as goal
+use Rattle.cs_project.proofs.search.LineSearch.next_match.Goals as goal
 
 none_of : (test : List ℕ → Bool) → NoneMatch test (terminated_lines [])
 unfolding terminated_lines
@@ -33,14 +33,14 @@ lines-init c =
     }
 
 -- the search after its matcher has searched
-abbrev with_matcher : Search → Automaton → Search
+abbrev with_matcher : LineSearch → Automaton → LineSearch
 with_matcher cur matcher = record cur { matcher = matcher }
 
-same_match : (self cur : Search) (matcher : Automaton) → KeepsSearch self cur → matcher.tree ≡ cur.matcher.tree → KeepsSearch self (with_matcher cur matcher)
+same_match : (self cur : LineSearch) (matcher : Automaton) → KeepsSearch self cur → matcher.tree ≡ cur.matcher.tree → KeepsSearch self (with_matcher cur matcher)
 same_match self cur matcher kept same = keeps_again self cur (with_matcher cur matcher) kept (same, refl, refl, λ none. none)
 
 -- no line before the next one with a match matches
-none_before : (self cur : Search) (block : List ℕ) (from start at : ℕ) (test : List ℕ → Bool) → from ≤ start → start ≤ at →
+none_before : (self cur : LineSearch) (block : List ℕ) (from start at : ℕ) (test : List ℕ → Bool) → from ≤ start → start ≤ at →
     AreWholeLines (take (start - from) (drop from block)) → NoneMatch test (terminated_lines (take (start - from) (drop from block))) →
     KeepsSearch self cur → Tests test self → MatchingIsDecidable →
     ((has_match : List ℕ → Bool) → Decides has_match cur.matcher.tree → NoneMatch has_match (terminated_lines (take (at - start) (drop start block)))) →

@@ -6,7 +6,7 @@ use Rattle.cs_match.specs.SpanList.{first_spans}
 use Rattle.cs_match.specs.declared.spans.Span.{Span}
 use Rattle.cs_project.specs.Ordered.{AreOrdered}
 use Rattle.cs_project.proofs.SpanListLemmas.{spans_ordered}
-use Rattle.cs_project.proofs.search.Search.find.Goals as goal
+use Rattle.cs_project.proofs.search.LineSearch.find.Goals as goal
 
 -- a `Vec` after a call that borrowed it as a slice
 refilled : (n : ℕ) (items new : List Span) → length new ≡ n → take n (new ++ drop (length new) items) ≡ new

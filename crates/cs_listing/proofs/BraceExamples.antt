@@ -1,7 +1,7 @@
 -- Rows of the definitions of `Braces`, as bash expands them where braces match. All texts have one decision, so their order is of no
 -- account.
-use Rattle.std.proofs.Common.{◌≡◌, refl, ℕ, true, false, Bool, List, [], ◌∷◌, ◌++◌}
-use Rattle.std.specs.Prelude.{Option, Some, None, codes, length, replicate, option_map, unwrap_or, flat_map}
+use Rattle.std.proofs.Common.{◌≡◌, refl, ℕ, List, [], ◌∷◌, ◌++◌}
+use Rattle.std.specs.Prelude.{Some, None, codes, length, replicate, option_map, unwrap_or, flat_map}
 use Rattle.cs_listing.specs.Braces.{alternatives, globs_in}
 use Rattle.cs_listing.specs.Rules.{Rule}
 

@@ -9,7 +9,7 @@ ghost use Rattle.cs_listing.specs.FolderReads.{InTree};
 ghost use Rattle.cs_listing.specs.Walk.{settings_in, IsWalkIn, Gives, Begins, StepGives, ComesNearer, StepComesNearer, HasReportedNone, ReportsOnce, StepReportsOnce, TakesUnread, IsVisit, Visits, OpensAtMostOne, Enters, Opens};
 
 use crate::choices::Choices;
-use crate::entries::{Entry, FolderReader, Listed, Place, child_path};
+use crate::entries::{Entry, FolderNames, FolderReader, Place, child_path};
 use crate::fault::{ListFault, Unread};
 use crate::layers::Layers;
 use cs_tree::{LONGEST_PATH, Look, Stamp};
@@ -161,7 +161,12 @@ impl<'a> Walk<'a> {
     }
 
     /// Enters a folder of the deepest one, and returns what it lists.
-    fn enter<T: Look>(&mut self, tree: &mut T, name: &str, stem: &str) -> Result<Listed, AllocError>
+    fn enter<T: Look>(
+        &mut self,
+        tree: &mut T,
+        name: &str,
+        stem: &str,
+    ) -> Result<FolderNames, AllocError>
         ensures enters { IfOk result (λ listed. InTree (T.snapshot tree.old)
             (λ items. Enters items stem.now (map string_bytes listed.names.items) self.old self.new)) }
         ensures names { OnOk result (all_names self.new.layers ≡ all_names self.old.layers ++ name.now ∷ []) }
@@ -185,7 +190,7 @@ impl<'a> Walk<'a> {
         &mut self,
         tree: &mut T,
         stem: String,
-        listed: &Listed,
+        listed: &FolderNames,
     ) -> Result<(), AllocError>
         requires { 0 < length (folders_in self.old.layers) }
         ensures opens { OnOk result (Opens (T.snapshot tree.old) stem

@@ -1,4 +1,4 @@
-use Rattle.std.proofs.Common.{rules, sym, ap, ◌∙◌}
+use Rattle.std.proofs.Common.{rules}
 use Rattle.cs_listing.proofs.ReportLemmas.{newly, takes_one}
 use Rattle.cs_listing.proofs.walk.next_unread.Goals as goal
 

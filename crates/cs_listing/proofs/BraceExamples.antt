@@ -1,13 +1,14 @@
--- Rows of the definitions of `Braces`, as bash expands them where braces match.
-use Rattle.std.proofs.Common.{◌≡◌, refl, ℕ, true, false, Bool, List, [], ◌∷◌, ◌++◌}
-use Rattle.std.specs.Prelude.{Option, Some, None, codes, length, replicate, option_map, unwrap_or, flat_map}
+-- Rows of the definitions of `Braces`, as bash expands them where braces match. All texts have one decision, so their order is of no
+-- account.
+use Rattle.std.proofs.Common.{◌≡◌, refl, ℕ, List, [], ◌∷◌, ◌++◌}
+use Rattle.std.specs.Prelude.{Some, None, codes, length, replicate, option_map, unwrap_or, flat_map}
 use Rattle.cs_listing.specs.Braces.{alternatives, globs_in}
 use Rattle.cs_listing.specs.Rules.{Rule}
 
 two : alternatives (codes "*.{c,h}") ≡ Some (codes "*.c" ∷ codes "*.h" ∷ [])
 two = refl
 
-two_pairs : alternatives (codes "{a,b}{c,d}") ≡ Some (codes "ac" ∷ codes "ad" ∷ codes "bc" ∷ codes "bd" ∷ [])
+two_pairs : alternatives (codes "{a,b}{c,d}") ≡ Some (codes "ac" ∷ codes "bc" ∷ codes "ad" ∷ codes "bd" ∷ [])
 two_pairs = refl
 
 pairs_in_pairs : alternatives (codes "a{b,c{d,e}f}g") ≡ Some (codes "abg" ∷ codes "acdfg" ∷ codes "acefg" ∷ [])

@@ -2,7 +2,7 @@
 use Rattle.std.proofs.Common.{◌≡◌, refl, ℕ, zero, suc, ◌+◌, ◌-◌, ◌≤◌, ◌<◌, Bool, true, false, cond, List, [], ◌∷◌, ◌++◌, length, drop, take, sym, ap, ◌∙◌, subst, arith, append_assoc, length-take, length-drop}
 use Rattle.std.proofs.lemmas.Slice.Eq.{bytes_eq-Decides}
 use Rattle.std.specs.Prelude.{Option, Some, None, nat_eq, nat_le, ◌&&◌, IfSome, bytes_eq, codes}
-use Rattle.cs_listing.specs.Classes.{TreeItems, begins_with, after_backslash, quoted, letters, class_name, name_in, is_range, range_to, range_from, named_item, ranges_named, item_or, class_item, item_length, with_item, one_longer, later_items, class_items}
+use Rattle.cs_listing.specs.Classes.{ItemsRead, begins_with, after_backslash, quoted, letters, class_name, closed_name, is_range, range_to, range_from, named_item, ranges_named, item_or, class_item, item_length, with_item, one_longer, later_items, class_items}
 
 -- ---- lengths
 
@@ -14,7 +14,7 @@ pub letters_within : (text : List ℕ) → letters text ≤ length text
 letters_within [] = omega arith
 letters_within (b ∷ text) = within (nat_le 97 b && nat_le b 122) (letters text) (length text) (letters_within text)
 
-abbrev IsLonger : TreeItems → Type 0
+abbrev IsLonger : ItemsRead → Type 0
 IsLonger o = IfSome o (λ item. 0 < item.1)
 
 by_byte : (c : Bool) (b : ℕ) (text : List ℕ) → IfSome (cond c (after_backslash text) (Some (b, 1))) (λ own. 0 < own.1)
@@ -49,22 +49,22 @@ item_takes text ranges n e = subst (λ o. IsLonger o) e (item_longer text (class
 
 -- ---- items and those after them
 
-abbrev pub after_items : List (ℕ × ℕ) → ℕ → TreeItems → TreeItems
+abbrev pub after_items : List (ℕ × ℕ) → ℕ → ItemsRead → ItemsRead
 after_items ranges n None = None
 after_items ranges n (Some items) = Some (ranges ++ items.0, n + items.1)
 
-pub after_none : (items : TreeItems) → after_items [] 0 items ≡ items
+pub after_none : (items : ItemsRead) → after_items [] 0 items ≡ items
 after_none None = refl
 after_none (Some items) = ap (λ n. Some (items.0, n)) (omega arith)
 
-pub after_both : (first second : List (ℕ × ℕ)) (m n : ℕ) (items : TreeItems) →
+pub after_both : (first second : List (ℕ × ℕ)) (m n : ℕ) (items : ItemsRead) →
     after_items first m (after_items second n items) ≡ after_items (first ++ second) (m + n) items
 after_both first second m n None = refl
 after_both first second m n (Some items) =
     ap (λ r. Some (r, m + (n + items.1))) (sym (append_assoc first second items.0))
     ∙ ap (λ k. Some ((first ++ second) ++ items.0, k)) (omega arith)
 
-longer_after : (n : ℕ) (items : TreeItems) → one_longer (after_items [] n items) ≡ after_items [] (suc n) items
+longer_after : (n : ℕ) (items : ItemsRead) → one_longer (after_items [] n items) ≡ after_items [] (suc n) items
 longer_after n None = refl
 longer_after n (Some items) = ap (λ k. Some (items.0, k)) (omega arith)
 
@@ -73,7 +73,7 @@ later_drop zero text = sym (after_none (later_items 0 text))
 later_drop (suc n) [] = refl
 later_drop (suc n) (b ∷ text) = ap one_longer (later_drop n text) ∙ longer_after n (later_items 0 (drop n text))
 
-with_after : (ranges : List (ℕ × ℕ)) (n : ℕ) (items : TreeItems) →
+with_after : (ranges : List (ℕ × ℕ)) (n : ℕ) (items : ItemsRead) →
     with_item (Some (ranges, n)) (after_items [] n items) ≡ after_items ranges n items
 with_after ranges n None = refl
 with_after ranges n (Some items) = refl
@@ -95,7 +95,7 @@ later_by : (ranges : List (ℕ × ℕ)) (n b : ℕ) (text : List ℕ) → 0 < n 
 later_by ranges zero b text h = absurd (omega (arith, h))
 later_by ranges (suc n) b text h = ap (λ k. with_item (Some (ranges, suc n)) (one_longer (later_items k text))) (omega arith)
 
-later_of : (item : TreeItems) (b : ℕ) (text : List ℕ) → IsLonger item →
+later_of : (item : ItemsRead) (b : ℕ) (text : List ℕ) → IsLonger item →
     with_item item (one_longer (later_items (item_length item - 1) text)) ≡ with_item item (later_items (item_length item) (b ∷ text))
 later_of None b text h = refl
 later_of (Some item) b text h = later_by item.0 item.1 b text h
@@ -133,7 +133,7 @@ in_by true text name is e =
     omega (arith, back, ap length same, length-take (letters text) text, length-drop (letters text) text, letters_within text)
 in_by false text name is e = cc
 
-name_by : (c : Bool) (text name : List ℕ) → bytes_eq (take 2 text) (codes "[:") ≡ c → cond c (name_in (drop 2 text)) None ≡ Some name →
+name_by : (c : Bool) (text name : List ℕ) → bytes_eq (take 2 text) (codes "[:") ≡ c → cond c (closed_name (drop 2 text)) None ≡ Some name →
     length name + 4 ≤ length text
 name_by true text name is e =
     let start = two text (codes "[:") refl is in
@@ -150,7 +150,7 @@ pub named : (text name : List ℕ) (ranges : List (ℕ × ℕ)) → class_name t
 named text name ranges e r = (ap (item_or text) e ∙ ap (named_item name) r, name_within text name e)
 
 -- the item that is a range
-pub ranged : (text : List ℕ) (item : TreeItems) → class_name text ≡ None → range_from text (quoted text) ≡ item → class_item text ≡ item
+pub ranged : (text : List ℕ) (item : ItemsRead) → class_name text ≡ None → range_from text (quoted text) ≡ item → class_item text ≡ item
 ranged text item e r = ap (item_or text) e ∙ r
 
 pub begins_some : (b : ℕ) (text : List ℕ) → begins_with b text ≡ true → 0 < length text

@@ -4,7 +4,7 @@ use Rattle.std.specs.Path.{slash}
 use Rattle.std.specs.List.{cons_option}
 use Rattle.std.specs.Option.{option_to_list}
 use Rattle.std.specs.declared.alloc.Global.{Global}
-use Rattle.std.proofs.Common.{◌≡◌, refl, ℕ, Bool, ◌+◌, ◌<◌, ◌≤◌, if◌then◌else◌, List, [], ◌∷◌, ◌++◌, length, take, map, get_or, sym, ap, subst, ◌∙◌, append_assoc}
+use Rattle.std.proofs.Common.{◌≡◌, refl, ℕ, Bool, ◌+◌, ◌<◌, ◌≤◌, List, [], ◌∷◌, ◌++◌, length, take, map, get_or, sym, ap, subst, ◌∙◌}
 use Rattle.std.proofs.lemmas.List.{map-append, take_all}
 use Rattle.std.proofs.lemmas.List.Elements.{filter_map-append}
 use Rattle.cs_tree.specs.Snapshot.{Snapshot, item_at}
@@ -15,7 +15,7 @@ use Rattle.cs_tree.proofs.NameLemmas.{mapped_more}
 use Rattle.cs_listing.specs.Layers.{FolderRules}
 use Rattle.cs_listing.specs.Models.{rules_in, rules_if}
 use Rattle.cs_listing.specs.Listing.{TreeItems, folder_at}
-use Rattle.cs_listing.specs.FolderReads.{InTree, folder_path, entry_path, rules_among, exclude_read, rule_files_read, folder_read, key_taken, keys_taken}
+use Rattle.cs_listing.specs.FolderReads.{InTree, folder_path, rules_among, exclude_read, rule_files_read, folder_read, key_taken, keys_taken}
 use Rattle.cs_listing.specs.Entries.{entry_key, entry_keys, AreKeysOf}
 use Rattle.cs_listing.specs.declared.rules.Rules.{Rules}
 use Rattle.cs_listing.specs.declared.entries.Entry.{Entry}

@@ -24,6 +24,7 @@ pub mod FolderLemmas
 pub mod VisitLemmas
 pub mod StepLemmas
 pub mod WeightLemmas
+pub mod ReportLemmas
 pub mod BeginLemmas
 pub mod WholeWalkLemmas
 pub mod SettingLemmas

@@ -1,5 +1,5 @@
 -- The names along a path.
-use Rattle.std.specs.Prelude.{filter_map, Result, Ok, Err, OnOk}
+use Rattle.std.specs.Prelude.{filter_map}
 use Rattle.std.specs.Option.{option_to_list}
 use Rattle.std.specs.List.{cons_option}
 use Rattle.std.proofs.Common.{◌≡◌, refl, ℕ, List, [], ◌∷◌, ◌++◌, sym, ap, ◌∙◌, append_assoc}

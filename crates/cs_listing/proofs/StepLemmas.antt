@@ -134,7 +134,7 @@ left_is items old new left frame frames all some settings empty are = by_frames 
         let at = subst (λ a. AreAround items a (next ∷ fs)) place around in (
           (
             outer.0 ∙ ap (folders_to ti items) (sym outer.1)
-            ∙ sym (ap (λ (s : Settings). folders_to s.takes_ignored items (above_in new)) settings),
+                ∙ sym (ap (λ (s : Settings). folders_to s.takes_ignored items (above_in new)) settings),
             subst (λ a. IsOpen items [] a next) (sym outer.1) (record {
               stem = at.1.stem;
               ascend = rest_ascend (key_of true name) (keys_in next) at.1.ascend;

@@ -12,7 +12,7 @@ use Rattle.cs_tree.specs.Walks.{is_file}
 use Rattle.cs_tree.specs.declared.tree.Kind.{Kind}
 use Rattle.cs_tree.specs.declared.tree.Kind.TheVariants as kind
 use Rattle.cs_listing.specs.Layers.{is_left_out}
-use Rattle.cs_listing.specs.Models.{rules_in, folders_in, names_in, settings_of}
+use Rattle.cs_listing.specs.Models.{folders_in, names_in, settings_of}
 use Rattle.cs_listing.specs.Listing.{Settings, TreeItems, has_more, is_listed, is_reached, is_taken, leaves_out, folders_to, down}
 use Rattle.cs_listing.specs.FolderReads.{key_of, kind_of_item, kind_at, taken_as, out_by, keys_taken}
 use Rattle.cs_listing.specs.Entries.{AreKeysOf}

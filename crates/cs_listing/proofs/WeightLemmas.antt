@@ -1,10 +1,14 @@
 -- A walk ends: each step that goes on makes it lighter.
-use Rattle.std.specs.Prelude.{Option, Some, None}
-use Rattle.std.proofs.Common.{◌≡◌, ℕ, ◌+◌, ◌-◌, ◌*◌, ◌^◌, ◌<◌, ◌≤◌, ◌⊎◌, inl, inr, List, [], ◌∷◌, ◌++◌, length, ap, sym, ◌∙◌, arith, pow_pos, pow-add}
+use Rattle.std.specs.Prelude.{Option, Some, None, String, string_bytes}
+use Rattle.std.specs.List.{AllByRecursion}
+use Rattle.std.specs.BTreeSet.{BTreeSet, contains_text}
+use Rattle.std.specs.declared.alloc.Global.{Global}
+use Rattle.std.proofs.Common.{◌≡◌, ℕ, true, ◌+◌, ◌-◌, ◌*◌, ◌^◌, ◌<◌, ◌≤◌, ◌⊎◌, inl, inr, List, [], ◌∷◌, ◌++◌, length, ap, sym, ◌∙◌, arith, pow_pos, pow-add}
 use Rattle.std.proofs.Math.Nat.{mul-lt-mul_of_pos_right, eq-or-lt_of_le}
 use Rattle.std.proofs.lemmas.List.{length-append}
 use Rattle.cs_tree.specs.Clean.{longest_path}
-use Rattle.cs_listing.specs.Walk.{weight, walk_weight, unread_in, ComesNearer}
+use Rattle.cs_listing.specs.Walk.{weight, walk_weight, unread_in, KeepsReports, ComesNearer}
+use Rattle.cs_listing.specs.declared.fault.Unread.{Unread}
 use Rattle.cs_listing.specs.declared.walk.Frame.{Frame}
 use Rattle.cs_listing.specs.declared.walk.Walk.{Walk}
 use Rattle.cs_listing.specs.declared.walk.Found.{Found}
@@ -84,15 +88,26 @@ visits_lighter xs all mid later x y is at less (inr opened) =
     few : (z : Frame) → length z.entries.items < 2 ^ 64
     few z = omega (arith, z.entries.ok.0, z.entries.ok.1, z.entries.small)
 
+all_alike : (first old : BTreeSet (String Global)) → KeepsReports first old → (others : List Unread) →
+    AllByRecursion (λ other. contains_text old (string_bytes other.path) ≡ true) others →
+    AllByRecursion (λ other. contains_text first (string_bytes other.path) ≡ true) others
+all_alike first old kept [] all = tt
+all_alike first old kept (other ∷ others) all =
+    (sym (kept (string_bytes other.path)) ∙ all.0, all_alike first old kept others all.1)
+
 -- one more call, of a walk that has come nearer or is still the same
 pub nearer : (first old new : Walk) (given : Option Found) → walk_weight old ≤ walk_weight first →
-    (walk_weight old ≡ walk_weight first → unread_in old ≡ unread_in first) → ComesNearer old new given → ComesNearer first new given
-nearer first old new None within same comes = tt
-nearer first old new (Some (found.File file)) within same comes = omega (arith, within, comes)
-nearer first old new (Some (found.Unread unread)) within same (inl lighter) = inl (omega (arith, within, lighter))
-nearer first old new (Some (found.Unread unread)) within same (inr left) =
+    (walk_weight old ≡ walk_weight first → unread_in old ≡ unread_in first) → KeepsReports first.reported old.reported →
+    ComesNearer old new given → ComesNearer first new given
+nearer first old new None within same kept comes = tt
+nearer first old new (Some (found.File file)) within same kept comes = omega (arith, within, comes)
+nearer first old new (Some (found.Unread unread)) within same kept (inl lighter) = inl (omega (arith, within, lighter))
+nearer first old new (Some (found.Unread unread)) within same kept (inr left) =
     either (eq-or-lt_of_le within)
   where
     either : (walk_weight old ≡ walk_weight first) ⊎ (walk_weight old < walk_weight first) → ComesNearer first new (Some (found.Unread unread))
-    either (inl e) = inr (left.0 ∙ e, sym (same e) ∙ left.1)
+    either (inl e) = inr (
+      left.0 ∙ e,
+      (left.1.0, sym (same e) ∙ left.1.1, all_alike first.reported old.reported kept left.1.0 left.1.2),
+    )
     either (inr less) = inl (omega (arith, less, left.0))

@@ -14,10 +14,10 @@ all_given : (items : TreeItems) (walk : Walk) (given : List Found) (left : List 
     (paths : List (List (List ℕ))) × (files_given given ≡ map path_text paths) × GivesAll left paths
 all_given items walk [] left same to_end = ([], refl, λ path. sym (same path) ∙ to_end.1.1 path)
 all_given items walk (found.Unread unread ∷ others) left same to_end =
-    all_given items to_end.0 others left (λ path. to_end.1.1 path ∙ same path) to_end.2
+    all_given items to_end.0 others left (λ path. to_end.1.1 path ∙ same path) to_end.3
 all_given items walk (found.File file ∷ others) left same to_end =
     let first = to_end.1.1 in
-    let rest = all_given items to_end.0 others (is_left to_end.0 items) (λ path. refl) to_end.2 in (
+    let rest = all_given items to_end.0 others (is_left to_end.0 items) (λ path. refl) to_end.3 in (
       first.0 ∷ rest.0,
       ap (λ text. text ∷ files_given others) first.1 ∙ ap (λ texts. path_text first.0 ∷ texts) rest.1,
       (

@@ -3,8 +3,8 @@
 use Rattle.std.specs.Prelude.{ℕ, zero, suc, length, ◌+◌, ◌-◌, max, Bool, false, not, ◌&&◌, nat_eq, nat_le, if◌then◌else◌, List, [], ◌∷◌, ◌++◌, drop, take, Option, Some, None, codes, bytes_eq}
 
 -- What is read of a text: ranges, and the length of their text. None if they are no part of a class.
-abbrev pub TreeItems : Type 0
-TreeItems = Option (List (ℕ × ℕ) × ℕ)
+abbrev pub ItemsRead : Type 0
+ItemsRead = Option (List (ℕ × ℕ) × ℕ)
 
 -- whether a text begins with the byte
 abbrev pub begins_with : ℕ → List ℕ → Bool
@@ -47,12 +47,12 @@ letters [] = 0
 letters (b ∷ text) = if nat_le 97 b && nat_le b 122 then letters text + 1 else 0
 
 -- the name after `[:`, if letters and `:]` follow
-abbrev pub name_in : List ℕ → Option (List ℕ)
-name_in text =
+abbrev pub closed_name : List ℕ → Option (List ℕ)
+closed_name text =
     if bytes_eq (take 2 (drop (letters text) text)) (codes ":]") then Some (take (letters text) text) else None
 
 abbrev pub class_name : List ℕ → Option (List ℕ)
-class_name text = if bytes_eq (take 2 text) (codes "[:") then name_in (drop 2 text) else None
+class_name text = if bytes_eq (take 2 text) (codes "[:") then closed_name (drop 2 text) else None
 
 -- ---- items
 
@@ -62,46 +62,46 @@ is_range text = begins_with 45 text && (not (bytes_eq (drop 1 text) []) && not (
 
 -- The range from a byte, with its length, to another one. If the other one is less, the range has the first byte
 -- alone.
-abbrev pub range_to : ℕ × ℕ → Option (ℕ × ℕ) → TreeItems
+abbrev pub range_to : ℕ × ℕ → Option (ℕ × ℕ) → ItemsRead
 range_to low None = None
 range_to low (Some high) = Some ((low.0, max low.0 high.0) ∷ [], low.1 + 1 + high.1)
 
 -- the range that begins with a byte, if there is one
-abbrev pub range_from : List ℕ → Option (ℕ × ℕ) → TreeItems
+abbrev pub range_from : List ℕ → Option (ℕ × ℕ) → ItemsRead
 range_from text None = None
 range_from text (Some low) =
     if is_range (drop low.1 text) then range_to low (quoted (drop (low.1 + 1) text)) else Some ((low.0, low.0) ∷ [], low.1)
 
-abbrev pub named_item : List ℕ → Option (List (ℕ × ℕ)) → TreeItems
+abbrev pub named_item : List ℕ → Option (List (ℕ × ℕ)) → ItemsRead
 named_item name None = None
 named_item name (Some ranges) = Some (ranges, length name + 4)
 
 -- the item of a class that a text begins with: its ranges and its length
-abbrev pub item_or : List ℕ → Option (List ℕ) → TreeItems
+abbrev pub item_or : List ℕ → Option (List ℕ) → ItemsRead
 item_or text None = range_from text (quoted text)
 item_or text (Some name) = named_item name (ranges_named name)
 
-abbrev pub class_item : List ℕ → TreeItems
+abbrev pub class_item : List ℕ → ItemsRead
 class_item text = item_or text (class_name text)
 
 -- ---- classes
 
-abbrev pub item_length : TreeItems → ℕ
+abbrev pub item_length : ItemsRead → ℕ
 item_length None = 0
 item_length (Some item) = item.1
 
 -- an item and what follows it; the length is that of what follows
-abbrev pub with_item : TreeItems → TreeItems → TreeItems
+abbrev pub with_item : ItemsRead → ItemsRead → ItemsRead
 with_item None others = None
 with_item (Some item) None = None
 with_item (Some item) (Some others) = Some (item.0 ++ others.0, others.1)
 
-abbrev pub one_longer : TreeItems → TreeItems
+abbrev pub one_longer : ItemsRead → ItemsRead
 one_longer None = None
 one_longer (Some items) = Some (items.0, items.1 + 1)
 
 -- The items up to the `]`, and the length with it. The first bytes, as many as the number says, are those of an item before.
-abbrev pub later_items : ℕ → List ℕ → TreeItems
+abbrev pub later_items : ℕ → List ℕ → ItemsRead
 later_items n [] = None
 later_items (suc n) (b ∷ text) = one_longer (later_items n text)
 later_items zero (b ∷ text) =
@@ -109,5 +109,5 @@ later_items zero (b ∷ text) =
     else with_item (class_item (b ∷ text)) (one_longer (later_items (item_length (class_item (b ∷ text)) - 1) text))
 
 -- A class after its `[` and `!`: its ranges and its length. A `]` that comes first is an item. None if it does not end.
-abbrev pub class_items : List ℕ → TreeItems
+abbrev pub class_items : List ℕ → ItemsRead
 class_items text = with_item (class_item text) (later_items (item_length (class_item text)) text)

@@ -1,6 +1,6 @@
 -- Where a repository keeps its own files: gitrepository-layout(5), "gitdir" and "commondir". docs/PROMISES.md, "Rules".
 -- The bytes are 10 for a newline and 13 for a carriage return.
-use Rattle.std.specs.Prelude.{ℕ, Bool, not, ◌&&◌, nat_eq, nat_le, if◌then◌else◌, List, [], ◌∷◌, ◌++◌, take, drop, length, Option, Some, None, codes, bytes_eq}
+use Rattle.std.specs.Prelude.{ℕ, not, ◌&&◌, nat_eq, nat_le, if◌then◌else◌, List, [], ◌∷◌, ◌++◌, take, drop, length, Option, Some, None, codes, bytes_eq}
 use Rattle.std.specs.List.{before_first}
 use Rattle.std.specs.Str.{is_utf8}
 use Rattle.std.specs.Path.{slash}

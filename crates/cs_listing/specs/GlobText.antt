@@ -4,7 +4,7 @@ use Rattle.std.specs.Prelude.{ℕ, zero, suc, ◌+◌, ◌-◌, Bool, true, fals
 use Rattle.std.specs.List.{list_any, list_all, slice_split}
 use Rattle.std.specs.Path.{slash}
 use Rattle.cs_listing.specs.Globs.{GlobToken, byte, any, class, star, Element, folders, one}
-use Rattle.cs_listing.specs.Classes.{TreeItems, begins_with, quoted, class_items}
+use Rattle.cs_listing.specs.Classes.{ItemsRead, begins_with, quoted, class_items}
 
 -- ---- tokens
 
@@ -17,7 +17,7 @@ byte_token None = (nothing, 1)
 byte_token (Some own) = (byte own.0, own.1)
 
 -- a class, before whose items so many bytes stand in a text of that length
-abbrev pub class_token : Bool → ℕ → ℕ → TreeItems → GlobToken × ℕ
+abbrev pub class_token : Bool → ℕ → ℕ → ItemsRead → GlobToken × ℕ
 class_token negated before len None = (nothing, len)
 class_token negated before len (Some items) = (class negated items.0, before + items.1)
 

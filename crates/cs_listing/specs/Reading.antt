@@ -26,9 +26,9 @@ ReadsRange text None = range_from text (quoted text) ≡ None
 ReadsRange text (Some read) = (range_from text (quoted text) ≡ Some (read.0 ∷ [], read.1)) × (read.1 ≤ length text)
 
 -- the ranges of an item are added, and its length is read
-abbrev pub ReadsItem : List ℕ → List (ℕ × ℕ) → List (ℕ × ℕ) → Option ℕ → Type 0
-ReadsItem text before after None = class_item text ≡ None
-ReadsItem text before after (Some len) =
+abbrev pub AddsItem : List ℕ → List (ℕ × ℕ) → List (ℕ × ℕ) → Option ℕ → Type 0
+AddsItem text before after None = class_item text ≡ None
+AddsItem text before after (Some len) =
     (ranges : List (ℕ × ℕ)) × (class_item text ≡ Some (ranges, len)) × (after ≡ before ++ ranges) × (len ≤ length text)
 
 abbrev pub ReadsClass : {A : Type 0} → List ℕ → Option (Vec (ℕ × ℕ) A × ℕ) → Type 0

@@ -1,7 +1,8 @@
 -- The walk of a project: which files are still to come, and what one call of `next` gives. docs/PROMISES.md, "Rules".
-use Rattle.std.specs.Prelude.{ℕ, ◌≡◌, ◌≢◌, ◌⊎◌, ◌≤◌, ◌<◌, ◌+◌, ◌-◌, ◌*◌, ◌^◌, Bool, true, false, ◌&&◌, ◌||◌, List, [], ◌∷◌, ◌++◌, map, drop, reverse, length, Option, Some, None, String, string_bytes}
+use Rattle.std.specs.Prelude.{ℕ, ◌≡◌, ◌≢◌, ◌⊎◌, ◌≤◌, ◌<◌, ◌+◌, ◌-◌, ◌*◌, ◌^◌, Bool, true, false, ◌&&◌, ◌||◌, List, [], ◌∷◌, ◌++◌, map, drop, reverse, length, Option, Some, None, String, string_bytes, bytes_eq}
 use Rattle.std.specs.List.{AllByRecursion}
 use Rattle.std.specs.Ordering.{is_lt}
+use Rattle.std.specs.BTreeSet.{BTreeSet, contains_text}
 use Rattle.std.specs.declared.alloc.Global.{Global}
 use Rattle.cs_tree.specs.NameOrder.{bytes_cmp}
 use Rattle.cs_tree.specs.NamesAscending.{are_ascending}
@@ -174,6 +175,39 @@ Visits items name old new =
     IsWalkIn items new × ((path : List (List ℕ)) → is_left new items path ≡ is_to_come (settings_in old) items
     (above_in old.layers) (with_key (key_of true name) (keys_of_all (frames_in old))) path)
 
+-- ---- paths that could not be read
+
+-- the path is reported, for the first time
+abbrev pub Reports : BTreeSet (String Global) → BTreeSet (String Global) → List ℕ → Type 0
+Reports old new path = (contains_text old path ≡ false)
+    × ((other : List ℕ) → contains_text new other ≡ (bytes_eq path other || contains_text old other))
+
+abbrev pub KeepsReports : BTreeSet (String Global) → BTreeSet (String Global) → Type 0
+KeepsReports old new = (path : List ℕ) → contains_text new path ≡ contains_text old path
+
+abbrev pub HasReportedNone : Walk → Type 0
+HasReportedNone walk = (path : List ℕ) → contains_text walk.reported path ≡ false
+
+-- A path that could not be read is given once.
+abbrev pub ReportsOnce : Walk → Walk → Option Found → Type 0
+ReportsOnce old new None = KeepsReports old.reported new.reported
+ReportsOnce old new (Some (found.File file)) = KeepsReports old.reported new.reported
+ReportsOnce old new (Some (found.Unread unread)) = Reports old.reported new.reported (string_bytes unread.path)
+
+abbrev pub StepReportsOnce : Walk → Walk → Step → Type 0
+StepReportsOnce old new (step.Done given) = ReportsOnce old new given
+StepReportsOnce old new step.More = KeepsReports old.reported new.reported
+
+-- One of some paths is taken from the end. Those behind it were reported before, and are left out.
+abbrev pub TakesOne : BTreeSet (String Global) → List Unread → List Unread → Unread → Type 0
+TakesOne reported old new unread = (others : List Unread) × (old ≡ new ++ unread ∷ others)
+    × AllByRecursion (λ other. contains_text reported (string_bytes other.path) ≡ true) others
+
+-- the next one, if there is one that was not reported
+abbrev pub TakesUnread : List Unread → List Unread → BTreeSet (String Global) → BTreeSet (String Global) → Option Unread → Type 0
+TakesUnread old new before after None = KeepsReports before after
+TakesUnread old new before after (Some unread) = TakesOne before old new unread × Reports before after (string_bytes unread.path)
+
 -- ---- termination
 
 -- What the entries of the open folders weigh, from the topmost folder down: an entry weighs more than all entries of a folder
@@ -194,7 +228,7 @@ abbrev pub ComesNearer : Walk → Walk → Option Found → Type 0
 ComesNearer old new None = Unit {0}
 ComesNearer old new (Some (found.File file)) = walk_weight new < walk_weight old
 ComesNearer old new (Some (found.Unread unread)) = (walk_weight new < walk_weight old)
-    ⊎ ((walk_weight new ≡ walk_weight old) × (unread_in old ≡ unread_in new ++ unread ∷ []))
+    ⊎ ((walk_weight new ≡ walk_weight old) × TakesOne old.reported (unread_in old) (unread_in new) unread)
 
 -- a step that goes on makes the walk lighter
 abbrev pub StepComesNearer : Walk → Walk → Step → Type 0

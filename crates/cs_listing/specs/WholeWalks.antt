@@ -1,9 +1,10 @@
 -- What a walk of a project gives from its beginning to its end. docs/PROMISES.md, "Rules".
 use Rattle.std.specs.Prelude.{ℕ, ◌≡◌, ◌≢◌, true, false, List, [], ◌∷◌, map, Some, None, string_bytes}
 use Rattle.std.specs.List.{AllByRecursion}
+use Rattle.cs_tree.specs.Elements.{are_distinct}
 use Rattle.cs_tree.specs.NamesAscending.{are_ascending}
 use Rattle.cs_listing.specs.Listing.{Settings, TreeItems, is_found}
-use Rattle.cs_listing.specs.Walk.{settings_in, path_text, Begins, Gives}
+use Rattle.cs_listing.specs.Walk.{settings_in, path_text, Begins, Gives, ReportsOnce}
 use Rattle.cs_listing.specs.declared.walk.Found.{Found}
 use Rattle.cs_listing.specs.declared.walk.Found.TheVariants as found
 use Rattle.cs_listing.specs.declared.walk.Walk.{Walk}
@@ -11,13 +12,20 @@ use Rattle.cs_listing.specs.declared.walk.Walk.{Walk}
 -- what calls of `next` give one after the other, until one gives nothing
 abbrev pub GivesToEnd : TreeItems → Walk → List Found → Type 0
 GivesToEnd items walk [] = (ended : Walk) × Gives items walk ended None
-GivesToEnd items walk (given ∷ others) = (later : Walk) × Gives items walk later (Some given) × GivesToEnd items later others
+GivesToEnd items walk (given ∷ others) = (later : Walk) × Gives items walk later (Some given)
+    × ReportsOnce walk later (Some given) × GivesToEnd items later others
 
 -- the paths of the files among these
 abbrev pub files_given : List Found → List (List ℕ)
 files_given [] = []
 files_given (found.File file ∷ others) = string_bytes file.path ∷ files_given others
 files_given (found.Unread unread ∷ others) = files_given others
+
+-- the paths among these that could not be read
+abbrev pub paths_reported : List Found → List (List ℕ)
+paths_reported [] = []
+paths_reported (found.File file ∷ others) = paths_reported others
+paths_reported (found.Unread unread ∷ others) = string_bytes unread.path ∷ paths_reported others
 
 -- These are the paths of the files that a search of the folder `start` lists, in byte order.
 abbrev pub AreListed : Settings → TreeItems → List (List ℕ) → List (List ℕ) → Type 0
@@ -30,3 +38,8 @@ AreListed settings items start texts =
 abbrev pub WalksList : Type 0
 WalksList = (items : TreeItems) (start : List (List ℕ)) (walk : Walk) (given : List Found) →
     Begins items start walk → GivesToEnd items walk given → AreListed (settings_in walk) items start (files_given given)
+
+-- A walk gives each path that could not be read once.
+abbrev pub WalksReportOnce : Type 0
+WalksReportOnce = (items : TreeItems) (walk : Walk) (given : List Found) →
+    GivesToEnd items walk given → are_distinct (paths_reported given) ≡ true

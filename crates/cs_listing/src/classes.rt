@@ -1,7 +1,7 @@
 // Classes in the text of a glob, as in `[a-z]` and `[[:alpha:]]`.
 ghost use Rattle.std.specs.Prelude.{◌≡◌, IfOk};
 ghost use Rattle.cs_listing.specs.Classes.{begins_with as begins_with', quoted as quoted', class_name as class_name', ranges_named as ranges_named', letters as letters', is_range as is_range'};
-ghost use Rattle.cs_listing.specs.Reading.{lent, ReadsRange, ReadsItem, ReadsClass};
+ghost use Rattle.cs_listing.specs.Reading.{lent, ReadsRange, AddsItem, ReadsClass};
 
 use std::alloc::{AllocError, Global};
 
@@ -51,7 +51,7 @@ pub(crate) fn class_items(
 /// Adds the ranges of the item that a text begins with, and returns its length. None if there is
 /// none.
 fn add_item(text: &[u8], ranges: &mut Vec<(u8, u8)>) -> Result<Option<usize>, AllocError>
-    ensures { IfOk result (λ read. ReadsItem text.now ranges.old.items ranges.new.items read) }
+    ensures { IfOk result (λ read. AddsItem text.now ranges.old.items ranges.new.items read) }
 {
     if let Some(name) = class_name(text) {
         let Some(named) = ranges_named(name) else {

@@ -57,7 +57,7 @@ pub(crate) struct Place<'a> {
 
 /// What a folder lists.
 #[derive(Drop)]
-pub(crate) struct Listed {
+pub(crate) struct FolderNames {
     pub(crate) names: Vec<String>,
     /// Why the folder, or the name of one of its entries, cannot be read.
     pub(crate) fault: Option<ListFault>,
@@ -143,14 +143,14 @@ impl FolderReader {
     }
 
     /// What a folder lists: no names if it cannot be listed.
-    pub(crate) fn list<T: Tree>(&self, tree: &mut T, stem: &str) -> Result<Listed, AllocError>
+    pub(crate) fn list<T: Tree>(&self, tree: &mut T, stem: &str) -> Result<FolderNames, AllocError>
         ensures names { IfOk result (λ listed. are_elements (map string_bytes listed.names.items) ≡ true) }
         ensures listed { IfOk result (λ listed. InTree (T.snapshot tree.old)
             (λ items. map string_bytes listed.names.items ≡ names_listed (items (folder_path' stem.now)))) }
         ensures keeps { T.snapshot tree.new ≡ T.snapshot tree.old }
     {
         match tree.entries(self.alloc, folder_path(stem)) {
-            Ok(listing) => Ok(Listed {
+            Ok(listing) => Ok(FolderNames {
                 names: listing.names,
                 fault: if listing.unnamed {
                     Some(ListFault::Unnamed)
@@ -159,7 +159,7 @@ impl FolderReader {
                 },
             }),
             Err(TreeFault::Memory) => Err(AllocError),
-            Err(fault) => Ok(Listed {
+            Err(fault) => Ok(FolderNames {
                 names: Vec::new(self.alloc),
                 fault: Some(ListFault::Tree(fault)),
             }),
@@ -167,7 +167,11 @@ impl FolderReader {
     }
 
     /// Notes what of a folder could not be listed.
-    pub(crate) fn note_listed(&mut self, stem: &str, listed: &Listed) -> Result<(), AllocError> {
+    pub(crate) fn note_listed(
+        &mut self,
+        stem: &str,
+        listed: &FolderNames,
+    ) -> Result<(), AllocError> {
         if let Some(fault) = listed.fault {
             self.note(folder_path(stem), fault)?;
         }

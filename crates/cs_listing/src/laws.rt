@@ -1,7 +1,7 @@
 // Laws of the definitions. These functions do nothing.
 ghost use Rattle.cs_listing.specs.Listing.{ListsAsBelow};
 ghost use Rattle.cs_listing.specs.Walk.{GivesInOrder};
-ghost use Rattle.cs_listing.specs.WholeWalks.{WalksList};
+ghost use Rattle.cs_listing.specs.WholeWalks.{WalksList, WalksReportOnce};
 
 /// Below a folder that it enters, a search lists what a search of that folder lists.
 pub fn lists_as_below()
@@ -18,4 +18,9 @@ pub fn gives_in_order()
 /// and no other ones.
 pub fn walks_list()
     ensures { WalksList }
+{}
+
+/// A walk gives each path that could not be read once.
+pub fn walks_report_once()
+    ensures { WalksReportOnce }
 {}

@@ -6,14 +6,15 @@ ghost use Rattle.std.specs.Prelude.{◌≡◌, ◌<◌, ◌∷◌, ◌++◌, [],
 ghost use Rattle.cs_listing.specs.Choices.{within_depth};
 ghost use Rattle.cs_listing.specs.Models.{chosen_in, folders_in, all_names};
 ghost use Rattle.cs_listing.specs.FolderReads.{InTree};
-ghost use Rattle.cs_listing.specs.Walk.{settings_in, IsWalkIn, Gives, Begins, StepGives, ComesNearer, StepComesNearer, IsVisit, Visits, OpensAtMostOne, Enters, Opens};
+ghost use Rattle.cs_listing.specs.Walk.{settings_in, IsWalkIn, Gives, Begins, StepGives, ComesNearer, StepComesNearer, HasReportedNone, ReportsOnce, StepReportsOnce, TakesUnread, IsVisit, Visits, OpensAtMostOne, Enters, Opens};
 
 use crate::choices::Choices;
-use crate::entries::{Entry, FolderReader, Listed, Place, child_path};
+use crate::entries::{Entry, FolderNames, FolderReader, Place, child_path};
 use crate::fault::{ListFault, Unread};
 use crate::layers::Layers;
 use cs_tree::{LONGEST_PATH, Look, Stamp};
 use std::alloc::{AllocError, Global};
+use std::collections::BTreeSet;
 
 /// A file of the project.
 #[derive(Debug, Drop)]
@@ -58,6 +59,8 @@ pub struct Walk<'a> {
     /// The open folders, the deepest last.
     frames: Vec<Frame>,
     reader: FolderReader,
+    /// The paths that were given as ones that could not be read.
+    reported: BTreeSet<String>,
 }
 
 impl<'a> Walk<'a> {
@@ -73,6 +76,7 @@ impl<'a> Walk<'a> {
             (λ items. Begins items (map string_bytes start.now) walk)) }
         ensures settings { IfOk result (λ walk. settings_in walk
             ≡ within_depth (chosen_in choices.now) (length start.now)) }
+        ensures reported { IfOk result (λ walk. HasReportedNone walk) }
         ensures keeps { T.snapshot tree.new ≡ T.snapshot tree.old }
     {
         let mut walk = Walk {
@@ -80,6 +84,7 @@ impl<'a> Walk<'a> {
             layers: Layers::new(alloc, choices, start.len().saturating_add(choices.depth)),
             frames: Vec::new(alloc),
             reader: FolderReader::new(alloc),
+            reported: BTreeSet::new(alloc),
         };
         let mut stem = String::new(alloc);
         let mut listed = walk.enter(tree, "", stem.as_str())?;
@@ -91,12 +96,13 @@ impl<'a> Walk<'a> {
         Ok(walk)
     }
 
-    /// The next file, or the next path that could not be read. None at the end, to which each other
-    /// answer comes nearer.
+    /// The next file, or the next path that could not be read, each once. None at the end, to which
+    /// each other answer comes nearer.
     pub fn next<T: Look>(&mut self, tree: &mut T) -> Result<Option<Found>, AllocError>
         ensures gives { IfOk result (λ found. InTree (T.snapshot tree.old)
             (λ items. IsWalkIn items self.old → Gives items self.old self.new found)) }
         ensures nearer { IfOk result (λ found. ComesNearer self.old self.new found) }
+        ensures once { IfOk result (λ found. ReportsOnce self.old self.new found) }
         ensures settings { OnOk result (settings_in self.new ≡ settings_in self.old) }
         ensures keeps { T.snapshot tree.new ≡ T.snapshot tree.old }
     {
@@ -113,9 +119,11 @@ impl<'a> Walk<'a> {
             (λ items. IsWalkIn items self.old → StepGives items self.old self.new step)) }
         ensures settings { OnOk result (settings_in self.new ≡ settings_in self.old) }
         ensures nearer { IfOk result (λ step. StepComesNearer self.old self.new step) }
+        ensures once { IfOk result (λ step. StepReportsOnce self.old self.new step) }
         ensures keeps { T.snapshot tree.new ≡ T.snapshot tree.old }
     {
-        if let Some(unread) = self.reader.unread.pop() {
+        let next = next_unread(self.alloc, &mut self.reader.unread, &mut self.reported)?;
+        if let Some(unread) = next {
             return Ok(Step::Done(Some(Found::Unread(unread))));
         }
         let Some(mut frame) = self.frames.pop() else {
@@ -142,6 +150,7 @@ impl<'a> Walk<'a> {
             (λ items. IsVisit items name.now path self.old → Visits items name.now self.old self.new)) }
         ensures settings { OnOk result (settings_in self.new ≡ settings_in self.old) }
         ensures frames { OnOk result (OpensAtMostOne self.old self.new) }
+        ensures reported { self.new.reported ≡ self.old.reported }
         ensures keeps { T.snapshot tree.new ≡ T.snapshot tree.old }
     {
         if self.frames.len() > LONGEST_PATH {
@@ -152,18 +161,26 @@ impl<'a> Walk<'a> {
     }
 
     /// Enters a folder of the deepest one, and returns what it lists.
-    fn enter<T: Look>(&mut self, tree: &mut T, name: &str, stem: &str) -> Result<Listed, AllocError>
+    fn enter<T: Look>(
+        &mut self,
+        tree: &mut T,
+        name: &str,
+        stem: &str,
+    ) -> Result<FolderNames, AllocError>
         ensures enters { IfOk result (λ listed. InTree (T.snapshot tree.old)
             (λ items. Enters items stem.now (map string_bytes listed.names.items) self.old self.new)) }
         ensures names { OnOk result (all_names self.new.layers ≡ all_names self.old.layers ++ name.now ∷ []) }
         ensures frames { self.new.frames ≡ self.old.frames }
+        ensures reported { self.new.reported ≡ self.old.reported }
         ensures settings { OnOk result (settings_in self.new ≡ settings_in self.old) }
         ensures keeps { T.snapshot tree.new ≡ T.snapshot tree.old }
     {
         let listed = self.reader.list(tree, stem)?;
         let name = String::from_str(self.alloc, name)?;
         let ignored = self.layers.takes_ignored();
-        let folder = self.reader.folder(tree, stem, &listed.names, name, ignored)?;
+        let folder = self
+            .reader
+            .folder(tree, stem, &listed.names, name, ignored)?;
         self.layers.enter(folder)?;
         Ok(listed)
     }
@@ -173,13 +190,14 @@ impl<'a> Walk<'a> {
         &mut self,
         tree: &mut T,
         stem: String,
-        listed: &Listed,
+        listed: &FolderNames,
     ) -> Result<(), AllocError>
         requires { 0 < length (folders_in self.old.layers) }
         ensures opens { OnOk result (Opens (T.snapshot tree.old) stem
             (map string_bytes listed.now.names.items)
             self.old self.new) }
         ensures layers { self.new.layers ≡ self.old.layers }
+        ensures reported { self.new.reported ≡ self.old.reported }
         ensures keeps { T.snapshot tree.new ≡ T.snapshot tree.old }
     {
         let text = stem.as_str();
@@ -192,4 +210,22 @@ impl<'a> Walk<'a> {
         self.frames.push(Frame { stem, entries })?;
         Ok(())
     }
+}
+
+/// Takes the next of these that was not reported before.
+fn next_unread(
+    alloc: Global,
+    unread: &mut Vec<Unread>,
+    reported: &mut BTreeSet<String>,
+) -> Result<Option<Unread>, AllocError>
+    ensures { IfOk result (λ next. TakesUnread
+        unread.old.items unread.new.items reported.old reported.new next) }
+{
+    'unread: while let Some(next) = unread.pop() {
+        let path = String::from_str(alloc, next.path.as_str())?;
+        if reported.insert(path)? {
+            return Ok(Some(next));
+        }
+    }
+    Ok(None)
 }

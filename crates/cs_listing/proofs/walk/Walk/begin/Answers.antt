@@ -1,5 +1,7 @@
 use Rattle.std.proofs.Common.{◌≡◌, [], ◌∷◌, ◌++◌, map, take, refl, arith, sym, ap, subst, ◌∙◌}
-use Rattle.std.specs.Prelude.{string_bytes}
+use Rattle.std.specs.Prelude.{String, string_bytes}
+use Rattle.std.specs.BTreeSet.{BTreeSet, contains_text}
+use Rattle.std.specs.declared.alloc.Global.{Global}
 use Rattle.std.proofs.lemmas.List.{take_all}
 use Rattle.cs_tree.proofs.NameLemmas.{mapped_more}
 use Rattle.cs_listing.specs.Models.{all_names}
@@ -7,11 +9,12 @@ use Rattle.cs_listing.specs.FolderReads.{InTree, entry_path}
 use Rattle.cs_listing.specs.Walk.{Enters}
 use Rattle.cs_listing.specs.declared.walk.Walk.{Walk}
 use Rattle.cs_listing.proofs.BeginLemmas.{HasEntered, enters_root, enters_more, begins, no_names}
+use Rattle.cs_listing.proofs.ReportLemmas.{none_in}
 use Rattle.cs_listing.proofs.walk.Walk.begin.Goals as goal
 
 pub start-init : goal.start-init
 start-init g c =
-    let before : Walk = record { alloc = c.args.alloc; layers = c.new.result; frames = c.new-2.result; reader = c.new-3.result } in
+    let before : Walk = record { alloc = c.args.alloc; layers = c.new.result; frames = c.new-2.result; reader = c.new-3.result; reported = c.new-4.result } in
     record {
       entered = enters_root (g.T.Tree.snapshot c.args.tree.now) (map string_bytes c.in_ok-listed.listed.names.items) (string_bytes c.new-stem.result)
           before c.enter.new.self (no_names c.new.result c.new.ensures.folders) c.new.ensures.folders c.new-2.ensures.items
@@ -20,6 +23,7 @@ start-init g c =
           (map string_bytes c.in_ok-listed.listed.names.items) before c.enter.new.self)) c.as_str.ensures.value c.in_ok-listed.ensures.enters)
           c.in_ok-listed.ensures.names c.in_ok-listed.ensures.frames;
       settings = refl;
+      reported = none_in c.new-4.result c.enter.new.self.reported c.in_ok-listed.ensures.reported c.new-4.ensures.empty;
       kept = c.in_ok-listed.ensures.keeps;
     }
 
@@ -44,6 +48,8 @@ start-preserved g c =
           (c.in_ok-listed-2.ensures.names ∙ ap (λ n. all_names c.start.walk.layers ++ n ∷ []) c.as_str-in-start-3.ensures.value)
           c.in_ok-listed-2.ensures.frames);
       settings = c.in_ok-listed-2.ensures.settings ∙ c.start.invariant.settings;
+      reported = λ path. ap (λ (set : BTreeSet (String Global)). contains_text set path) c.in_ok-listed-2.ensures.reported
+          ∙ c.start.invariant.reported path;
       kept = c.in_ok-listed-2.ensures.keeps ∙ c.start.invariant.kept;
     }
 

@@ -1,6 +1,6 @@
 use Rattle.std.proofs.Common.{◌≡◌, take, map}
 use Rattle.std.specs.Prelude.{string_bytes}
-use Rattle.cs_listing.specs.Walk.{settings_in}
+use Rattle.cs_listing.specs.Walk.{settings_in, HasReportedNone}
 use Rattle.cs_listing.proofs.BeginLemmas.{HasEntered}
 use Rattle.cs_listing.proofs.walk.Walk.begin.Given as goal
 
@@ -10,5 +10,6 @@ invariant-start g l = record {
   entered : HasEntered (g.T.Tree.snapshot l.fn.tree) (map string_bytes (take l.name-index l.start)) l.walk (string_bytes l.stem)
       (map string_bytes l.listed.names.items);
   settings : settings_in l.walk ≡ settings_in l.initial.walk;
+  reported : HasReportedNone l.walk;
   kept : g.T.Tree.snapshot l.tree ≡ g.T.Tree.snapshot l.fn.tree;
 }

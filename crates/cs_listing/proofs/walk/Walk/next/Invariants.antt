@@ -1,6 +1,6 @@
 use Rattle.std.proofs.Common.{◌≡◌, ◌≤◌}
 use Rattle.cs_listing.specs.FolderReads.{InTree}
-use Rattle.cs_listing.specs.Walk.{IsWalkIn, StepGives, settings_in, walk_weight, unread_in}
+use Rattle.cs_listing.specs.Walk.{IsWalkIn, StepGives, settings_in, walk_weight, unread_in, KeepsReports}
 use Rattle.cs_listing.specs.declared.walk.Step.TheVariants.{More}
 use Rattle.cs_listing.proofs.walk.Walk.next.Given as goal
 
@@ -10,6 +10,7 @@ invariant-steps g l = record {
   steps : InTree (g.T.Tree.snapshot l.initial.tree) (λ items. IsWalkIn items l.initial.self → StepGives items l.initial.self l.self More);
   weight : walk_weight l.self ≤ walk_weight l.initial.self;
   unread : walk_weight l.self ≡ walk_weight l.initial.self → unread_in l.self ≡ unread_in l.initial.self;
+  reported : KeepsReports l.initial.self.reported l.self.reported;
   settings : settings_in l.self ≡ settings_in l.initial.self;
   kept : g.T.Tree.snapshot l.tree ≡ g.T.Tree.snapshot l.initial.tree;
 }

@@ -29,12 +29,19 @@ up_to_byte tokens later b n name found first finds e =
     ∙ star_over b (tokens_of later) name n (λ k less. none_before b name found finds k (omega (arith, less, e)))
     ∙ ap (λ t. matches_name (star ∷ t) (drop n name)) (sym first)
 
--- ---- the work, from a byte on that is at least one later
+-- ---- the work, from a later byte on
 
-pub paid_skip : (from more rest w : ℕ) → more + 1 ≡ from → rest ≤ more → (more - rest) + rest * (w + 1) + w + 1 ≤ from * (w + 1)
-paid_skip from more rest w e less =
+pub jump_paid : (from more rest w : ℕ) → more ≤ from → rest ≤ more → (more - rest) + rest * (w + 1) ≤ from * (w + 1)
+jump_paid from more rest w shorter less =
+    let all = mul-le-mul_right (w + 1) shorter in let skipped = mul-le-mul_right w less in omega (arith, all, skipped, less)
+
+pub jump_falls : (from rest n left later : ℕ) → rest ≤ from → later + 1 ≡ left → rest * (n + 1) + later < from * (n + 1) + left
+jump_falls from rest n left later less e = let all = mul-le-mul_right (n + 1) less in omega (arith, all, e)
+
+pub next_jump_paid : (from more rest w : ℕ) → more + 1 ≡ from → rest ≤ more → (more - rest) + rest * (w + 1) + w + 1 ≤ from * (w + 1)
+next_jump_paid from more rest w e less =
     let all = mul-le-mul_right w less in omega (arith, all, less, ap (λ n. n * (w + 1)) e)
 
-pub falls_skip : (from more rest n left after : ℕ) → more + 1 ≡ from → rest ≤ more → after ≤ n → rest * (n + 1) + after < from * (n + 1) + left
-falls_skip from more rest n left after e less fewer =
+pub next_jump_falls : (from more rest n left after : ℕ) → more + 1 ≡ from → rest ≤ more → after ≤ n → rest * (n + 1) + after < from * (n + 1) + left
+next_jump_falls from more rest n left after e less fewer =
     let all = mul-le-mul_right n less in omega (arith, all, less, fewer, ap (λ k. k * (n + 1)) e)

@@ -10,10 +10,6 @@ use Rattle.cs_listing.specs.Models.{tokens_of, element_of, glob_of, names}
 use Rattle.cs_listing.specs.declared.glob.Token.{Token}
 use Rattle.cs_listing.specs.declared.glob.Element.{Element as OwnElement}
 
--- a star takes more from a later byte on
-pub paid_later : (from rest w : ℕ) → rest ≤ from → rest * (w + 1) ≤ from * (w + 1)
-paid_later from rest w h = grind (arith, mul-le-mul_right)
-
 -- one byte less
 pub paid_again : (from more w : ℕ) → more + 1 ≡ from → more * (w + 1) + w + 1 ≡ from * (w + 1)
 paid_again from more w e = ap (λ x. x) (omega (arith, ap (λ n. n * (w + 1)) e))

@@ -123,15 +123,16 @@ fn matches_after_star(tokens: &[Token], name: &[u8], steps: &mut Steps) -> bool
     ensures work { CountsAtMost (name_work (tokens_of tokens.now) (length name.now)) steps.old steps.new }
 {
     let mut after = tokens;
-    let mut from = name;
+    let mut from = from_first(tokens, name, steps);
     let mut left = tokens;
-    let mut rest = name;
+    let mut rest = from;
     'tokens: loop {
         match name_step(left, rest, steps) {
             NameStep::Star(later) => {
                 after = later;
-                from = rest;
+                from = from_first(after, rest, steps);
                 left = later;
+                rest = from;
             }
             NameStep::Byte(later, more) => {
                 left = later;

@@ -86,9 +86,19 @@ impl Rules {
         ensures decides { result ≡ decide' (rules_in self.now) (names path.now) is_folder }
         ensures work { CountsAtMost (rules_work (rules_in self.now) (names path.now)) steps.old steps.new }
     {
+        // Most folders have none.
         if self.rules.is_empty() {
             return None;
         }
+        self.decide_by_keys(path, is_folder, steps)
+    }
+
+    // It is apart so that asking no rules costs no call.
+    #[inline(never)]
+    fn decide_by_keys(&self, path: &[&[u8]], is_folder: bool, steps: &mut Steps) -> Option<Decision>
+        ensures decides { result ≡ decide' (rules_in self.now) (names path.now) is_folder }
+        ensures work { CountsAtMost (rules_work (rules_in self.now) (names path.now)) steps.old steps.new }
+    {
         let name = path.last().copied().unwrap_or(&[]);
         let last = last_key(name);
         let whole = whole_key(name);

@@ -3,7 +3,7 @@ use Rattle.std.specs.Prelude.{Some, None}
 use Rattle.cs_listing.specs.Models.{names}
 use Rattle.cs_listing.proofs.RuleLemmas.{decides, passes, work_last}
 use Rattle.cs_listing.proofs.RuleKeyLemmas.{finds_by, last_named, last_of_first}
-use Rattle.cs_listing.proofs.rules.Rules.decide.Goals as goal
+use Rattle.cs_listing.proofs.rules.Rules.decide_by_keys.Goals as goal
 
 pub returns-clause-decides : goal.returns-clause-decides
 returns-clause-decides c =

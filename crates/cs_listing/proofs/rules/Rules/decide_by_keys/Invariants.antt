@@ -2,7 +2,7 @@ use Rattle.std.proofs.Common.{◌≡◌, ◌≤◌, ◌+◌, map, take, length}
 use Rattle.cs_listing.specs.Rules.{decide}
 use Rattle.cs_listing.specs.MatchWork.{rules_work}
 use Rattle.cs_listing.specs.Models.{names, rule_of}
-use Rattle.cs_listing.proofs.rules.Rules.decide.Given as goal
+use Rattle.cs_listing.proofs.rules.Rules.decide_by_keys.Given as goal
 
 -- the earlier rules decide as all do
 abbrev pub invariant-rules : goal.invariant-rules

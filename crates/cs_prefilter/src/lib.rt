@@ -13,8 +13,10 @@
 //! word bytes, give a word of the run so far and of the byte that follows: the newline, or a byte
 //! that is no word byte. The run goes on without it. `^`, and an edge before a word byte, say what
 //! the byte before the run is, unless the line begins there. No other set has a newline, so a word
-//! lies in one line and its newline. A repeat of at least one iteration ends a run with its first
-//! iteration, and begins the next one with its last.
+//! lies in one line and its newline. A set of characters ends a run with its first byte, and begins
+//! the next one with its last, and so does a repeat of at least one iteration with its first and
+//! last iteration. The branches of an alternation continue the run before it, and are continued by
+//! the sets and assertions behind it.
 //! The rarest run gives the only word, or an alternation gives the words of all its branches,
 //! whichever is rarer. If the tree matches each of the words by itself, the prefilter is *exact*: a
 //! line has a match if and only if it contains a word.

@@ -8,7 +8,7 @@ ghost use Rattle.cs_prefilter.specs.CountsAtMost.{CountsAtMost};
 ghost use Rattle.cs_prefilter.specs.Words.{HasWordOf};
 
 use crate::listing::Listed;
-use crate::required::best;
+use crate::required::required;
 use crate::search::{Kind, Search};
 use crate::steps::Steps;
 use crate::stop::Stop;
@@ -57,13 +57,13 @@ impl Prefilter {
     pub fn of(alloc: Global, root: &Node) -> Result<Option<Prefilter>, AllocError>
         ensures { IfOk result (λ prefilter. IfSome prefilter (IsPrefilterOf (tree_of root.now))) }
     {
-        let pairs = best(alloc, Kind::Pairs, root)?;
+        let pairs = required(alloc, Kind::Pairs, root)?;
         let has_rare_pairs = share_of(&pairs) < RARE;
         if has_rare_pairs && !are_slow(&pairs) {
             return Prefilter::by(alloc, root, Kind::Pairs, pairs);
         }
-        let trigrams = best(alloc, Kind::Trigrams, root)?;
-        if are_better(&trigrams, has_rare_pairs) {
+        let trigrams = required(alloc, Kind::Trigrams, root)?;
+        if are_better(&trigrams, &pairs, has_rare_pairs) {
             return Prefilter::by(alloc, root, Kind::Trigrams, trigrams);
         }
         Prefilter::by(alloc, root, Kind::Pairs, pairs)
@@ -151,9 +151,9 @@ fn are_slow(words: &Option<Words>) -> bool {
 
 /// Whether the trigrams of the words are worth their search, if there are rare pairs that are slow,
 /// or no rare pairs.
-fn are_better(words: &Option<Words>, has_rare_pairs: bool) -> bool {
+fn are_better(words: &Option<Words>, pairs: &Option<Words>, has_rare_pairs: bool) -> bool {
     if !has_rare_pairs {
-        return share_of(words) < WORTH;
+        return share_of(words) < WORTH.min(share_of(pairs));
     }
     match words {
         Some(words) => match Search::of(Kind::Trigrams, &words.words) {

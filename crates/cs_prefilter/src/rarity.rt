@@ -103,8 +103,11 @@ fn rarest_trigram(run: &[ByteSet], frequencies: &[u64]) -> Option<Part> {
 const MOST_PAIRS: u64 = 1_000_000;
 
 /// What counts as the frequency of the second set of a pair that has none: a single byte has to be
-/// rarer than a pair, unless it is a run by itself.
+/// rarer than a pair, unless it is a run by itself or with sets of most bytes.
 const NO_SECOND: u64 = 30_000;
+
+/// A set of more bytes, as those behind a word, rules out little.
+const MOST_MEMBERS: u32 = 128;
 
 /// How rare two neighbouring letters of source text are, the underscore as the last: `a` is 1, and
 /// each further letter half as frequent. They were counted in a text that is 60 % Linux, and Python
@@ -181,7 +184,7 @@ fn share_of_neighbours(first: &ByteSet, second: &ByteSet, independent: u64) -> u
 pub(crate) fn rarest_pair(run: &[ByteSet], frequencies: &[u64]) -> Option<(usize, usize)> {
     let first = rarest_tested(run, frequencies, None)?;
     let second = rarest_tested(run, frequencies, Some(first)).unwrap_or(first);
-    let rest = if run.len() == 1 {
+    let rest = if run.iter().filter(|set| set.len() <= MOST_MEMBERS).count() == 1 {
         0
     } else if second == first {
         NO_SECOND

@@ -64,15 +64,13 @@ mod runs;
 mod scan;
 mod search;
 mod steps;
-mod stop;
 mod sufficient;
 mod word;
 mod word_choice;
-mod word_list;
 mod words;
 
 pub use listing::Listed;
 pub use prefilter::Prefilter;
+pub use scan::WordStop;
 pub use steps::Steps;
-pub use stop::Stop;
 pub use word::Word;

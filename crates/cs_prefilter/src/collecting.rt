@@ -148,7 +148,7 @@ impl Runs {
     /// or later.
     pub(crate) fn cut(&mut self, index: usize) -> Result<(), AllocError>
         requires { index ≤ vec_len self.old.sets }
-        ensures sets { self.new.sets.items ≡ self.old.sets.items }
+        ensures sets { OnOk result (self.new.sets.items ≡ self.old.sets.items) }
         ensures start { OnOk result (self.new.start ≡ max self.old.start index) }
         ensures ends { OnOk result ((line : List ℕ) (j : ℕ) →
             EndsAt line self.old (max index self.old.start) j → RunEnds self.new line j) }
@@ -157,7 +157,7 @@ impl Runs {
         if index <= self.start {
             return Ok(());
         }
-        self.keep()?;
+        self.keep_run()?;
         self.start = index;
         self.before = ByteSet::all();
         self.is_at_edge = false;
@@ -166,7 +166,7 @@ impl Runs {
 
     /// Ends the current run.
     pub(crate) fn cut_here(&mut self) -> Result<(), AllocError>
-        ensures sets { self.new.sets.items ≡ self.old.sets.items }
+        ensures sets { OnOk result (self.new.sets.items ≡ self.old.sets.items) }
         ensures start { OnOk result (self.new.start ≡ vec_len self.new.sets) }
         ensures anywhere { OnOk result (MayBeginAnywhere self.new) }
         ensures best { OnOk result (KeepsBest self.old self.new) }
@@ -190,6 +190,20 @@ impl Runs {
         }
         self.before = ByteSet::all();
         self.is_at_edge = false;
+    }
+
+    /// Keeps the word of the current run if it is better than the best so far. A third set makes
+    /// two sets a trigram: a byte of the line follows them, or its newline.
+    pub(crate) fn keep_run(&mut self) -> Result<(), AllocError>
+        ensures run { OnOk result (IsSameRun self.old self.new) }
+        ensures best { OnOk result (KeepsBest self.old self.new) }
+    {
+        match self.kind {
+            Kind::Trigrams if self.sets.len() - self.start == 2 => self.keep_before(
+                &ByteSet::all(),
+            ),
+            _ => self.keep(),
+        }
     }
 
     /// Keeps the word of the current run if it is better than the best so far.

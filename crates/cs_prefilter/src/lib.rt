@@ -31,7 +31,8 @@
 //!   comparison, after a mask that makes the two cases of a letter the same. Pairs are chosen by a
 //!   table of bigrams, neighbours first.
 //! - *Class trigrams*, for other words, like Teddy: the words are in eight *buckets*, neighbours of
-//!   the list in one bucket. For each of their first three sets two masks of 16 entries, one for
+//!   the list in one bucket. A word of two sets has a third of all bytes, since a byte of the line
+//!   or its newline follows. For each of their first three sets two masks of 16 entries, one for
 //!   the low nibble of a byte and one for the high nibble, give the buckets that the byte may be
 //!   in. Where the frequencies of nibbles promise few offsets, the vector test uses the low nibbles
 //!   alone. At a marked offset the six entries are read for that offset, and only the words of the

@@ -9,6 +9,7 @@ ghost use Rattle.cs_prefilter.specs.Words.{HasWordOf};
 
 use crate::comparing::WordList;
 use crate::listing::Listed;
+use crate::rarity::RARE;
 use crate::required::required;
 use crate::scan::WordStop;
 use crate::search::{Kind, WordSearch};
@@ -18,10 +19,6 @@ use crate::words::{Words, share_of};
 use cs_syntax::Node;
 use std::alloc::{AllocError, Global};
 use std::marker::Model;
-
-/// Below this share of offsets, in units of 10^-12, words are searched for by pairs whatever the
-/// trigrams are.
-const RARE: u64 = 1_000_000_000;
 
 /// Below this share trigrams are worth their search, unless there are rare pairs.
 const WORTH: u64 = 5_000_000_000;

@@ -81,20 +81,27 @@ pub(crate) struct Part {
     pub(crate) share: u64,
 }
 
-/// The rarest three neighbouring sets of a run, given the frequencies of its sets.
+/// Below this share of offsets, in units of 10^-12, candidates cost little.
+pub(crate) const RARE: u64 = 1_000_000_000;
+
+/// The first three neighbouring sets of a run that are rare, or else the rarest, given the
+/// frequencies of its sets. A word that begins where the run does may be exact.
 fn rarest_trigram(run: &[ByteSet], frequencies: &[u64]) -> Option<Part> {
-    let mut best = None;
-    let mut share = u64::MAX;
+    let mut best: Option<Part> = None;
     for (from, sets) in run.windows(3).enumerate() {
-        let mut next = 1u64;
+        let mut share = 1u64;
         for frequency in frequencies.iter().skip(from).take(3) {
-            next = next.saturating_mul(*frequency);
+            share = share.saturating_mul(*frequency);
         }
-        let next = next.saturating_add(common_share([&sets[0], &sets[1], &sets[2]]));
-        if next < share {
-            share = next;
-            best = Some(Part { from, share });
-        }
+        let share = share.saturating_add(common_share([&sets[0], &sets[1], &sets[2]]));
+        best = match best {
+            Some(part) if part.share <= share => Some(part),
+            Some(part) if part.share < RARE => Some(Part {
+                from: part.from,
+                share,
+            }),
+            _ => Some(Part { from, share }),
+        };
     }
     best
 }

@@ -119,5 +119,5 @@ fn keep_followed(after: &[Node], runs: &mut Runs) -> Result<(), AllocError>
             _ => break 'nodes,
         }
     }
-    runs.keep()
+    runs.keep_run()
 }

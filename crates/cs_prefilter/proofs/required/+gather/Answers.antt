@@ -71,10 +71,11 @@ gather-returns-in_ok-words-in-Alt t c =
     (sym c.deref-in-Alt.ensures.value) in
     let run = c.offer.ensures.run in
     on_ok_both c.cut_here.result (λ start both.
-    follow_cut _ old new (c.cut_here.ensures.sets ∙ run.sets) start both.0 (λ line i j h. within line (tree_of c.args.node.now) i j h.0)
-    (λ line i j ends h has. both.1 line i (same_run_ends line old mid i run ends)
+    follow_cut _ old new (both.1.1 ∙ run.sets) start both.0 (λ line i j h. within line (tree_of c.args.node.now) i j h.0)
+    (λ line i j ends h has. both.1.0 line i (same_run_ends line old mid i run ends)
     (c.offer.ensures.best line (c.in_ok-words-in-Alt.ensures line i j ends (subst (λ (u : Tree). MatchesSpan line u i j) e h.0, h.1)) has)))
-    c.cut_here.ensures.start (both_ok _ _ c.cut_here.result c.cut_here.ensures.anywhere c.cut_here.ensures.best)
+    c.cut_here.ensures.start (both_ok _ _ c.cut_here.result c.cut_here.ensures.anywhere
+    (both_ok _ _ c.cut_here.result c.cut_here.ensures.best c.cut_here.ensures.sets))
 
 pub gather-returns-in_ok-gather-in-Rep : goal.gather-returns-in_ok-gather-in-Rep
 gather-returns-in_ok-gather-in-Rep t c =
@@ -90,16 +91,16 @@ gather-returns-in_ok-gather-in-Rep t c =
     c.if-least-gt0.true c.len-start.ensures begun.anywhere
     (follow_fewer _ _ first next
     (λ line i j h. (subst (λ (y : Node). MatchesSpan line (tree_of y) i j) (sym c.deref-in-Rep.ensures) h, (j, refl))) c.in_ok-gather-in-Rep.ensures)
-    c.cut.ensures.sets start both.0 both.1) (λ line i j h. (i, refl, h)))) c.cut.ensures.start
-    (both_ok _ _ c.cut.result c.cut.ensures.ends c.cut.ensures.best)
+    both.1.1 start both.0 both.1.0) (λ line i j h. (i, refl, h)))) c.cut.ensures.start
+    (both_ok _ _ c.cut.result c.cut.ensures.ends (both_ok _ _ c.cut.result c.cut.ensures.best c.cut.ensures.sets))
 
 pub gather-returns-in-Rep-2 : goal.gather-returns-in-Rep-2
 gather-returns-in-Rep-2 t c =
     let cut = c.cut_here-in-Rep-2 in
     on_ok_both cut.result (λ start both. follow_cut _ c.args.runs.now cut.new.self
-    cut.ensures.sets start both.0 (λ line i j h. within line (tree_of c.args.node.now) i j h.0)
-    (λ line i j ends h has. both.1 line i ends has)) cut.ensures.start
-    (both_ok _ _ cut.result cut.ensures.anywhere cut.ensures.best)
+    both.1.1 start both.0 (λ line i j h. within line (tree_of c.args.node.now) i j h.0)
+    (λ line i j ends h has. both.1.0 line i ends has)) cut.ensures.start
+    (both_ok _ _ cut.result cut.ensures.anywhere (both_ok _ _ cut.result cut.ensures.best cut.ensures.sets))
 
 pub gather_all-returns : goal.gather_all-returns
 gather_all-returns t c =

@@ -6,7 +6,7 @@ use Rattle.cs_syntax.specs.NodeList.{trees_of}
 use Rattle.cs_syntax.proofs.NodeLemmas.{tree_of-Set, tree_of-LineEnd, tree_of-WordEdge}
 use Rattle.cs_syntax.proofs.TreeLemmas.{trees_from}
 use Rattle.cs_prefilter.specs.declared.runs.Runs.{Runs}
-use Rattle.cs_prefilter.proofs.RunLemmas.{GoesOn, goes_on, to_newline}
+use Rattle.cs_prefilter.proofs.RunLemmas.{GoesOn, goes_on}
 use Rattle.cs_prefilter.proofs.required.keep_followed.Goals as goal
 use Rattle.cs_prefilter.proofs.required.keep_followed.Goals.{in-LineEnd+in_ok-add_line_end-in-LineEnd, in-WordEdge+in_ok-add_word_edge-in-WordEdge, in-Set+in_ok-add-in-Set}
 
@@ -30,6 +30,6 @@ nodes-preserved c = λ line i j e h has.
     ]
 
 pub returns : goal.returns
-returns c = on_ok_weaker c.keep.result (λ best line i j e h has.
+returns c = on_ok_weaker c.keep_run.result (λ best line i j e h has.
     let here = c.nodes.invariant line i j e h has in
-    best line here.at (to_newline line c.nodes.runs here.at here.run) here.has) c.keep.ensures.best
+    best line here.at here.run here.has) c.keep_run.ensures.best

@@ -5,14 +5,15 @@ use Rattle.std.proofs.lemmas.Bool.{cases_lt, and_from, not_from_false, ne_eqb, f
 use Rattle.std.proofs.lemmas.List.{drop-append-le, get_or_append_left, get_or-append-add, length-take-le}
 use Rattle.std.proofs.Math.Seq.{get_or-append_seam}
 use Rattle.cs_syntax.specs.ByteSet.{all_bytes}
-use Rattle.cs_syntax.specs.Matching.{Tree, one_of, rep, MatchesSpan, is_word, member, word_before, is_at_word_boundary}
+use Rattle.cs_syntax.specs.Matching.{Tree, Trees, more, one_of, rep, MatchesSpan, MatchesSequence, is_word, member, word_before, is_at_word_boundary}
 use Rattle.cs_syntax.proofs.ByteSetLemmas.{set_of_at}
+use Rattle.cs_syntax.specs.declared.node.Node.{Node}
 use Rattle.cs_prefilter.specs.declared.word.Word.{Word}
 use Rattle.cs_prefilter.specs.declared.words.Words.{Words}
 use Rattle.cs_prefilter.specs.declared.runs.Runs.{Runs}
 use Rattle.cs_prefilter.specs.WordAt.{IsLine, with_newline, HasWord, AreSufficient, IsPrefilterOf}
 use Rattle.cs_prefilter.specs.Words.{AreAll, HasWordOf, SetsEndAt, IsBehind, RunEndsAt}
-use Rattle.cs_prefilter.specs.Runs.{sets_from, current_sets, EndsAt, RunEnds, MayBeginAnywhere, KeepsBest, IsSameRun, RunsFollow}
+use Rattle.cs_prefilter.specs.Runs.{sets_from, current_sets, EndsAt, RunEnds, MayBeginAnywhere, KeepsBest, IsSameRun, RunsFollow, IsFollowed}
 use Rattle.cs_prefilter.proofs.EdgeLemmas.{one_more, byte_in, byte_end, small_bytes, before_is, after_is, other_after, other_before}
 use Rattle.cs_prefilter.proofs.SpanLemmas.{within, first_round, last_round}
 
@@ -231,22 +232,21 @@ follow_set set kept old new without sets start edge best before = record {
 }
 
 -- the run ends, and nothing is known of the bytes that the part matches
-pub follow_cut : (t : Tree) (old new : Runs) → new.sets.items ≡ old.sets.items → new.start ≡ vec_len new.sets →
-    MayBeginAnywhere new →
-    ((line : List ℕ) (i j : ℕ) → RunEnds old line i → MatchesSpan line t i j →
-    HasWordOf line old.best → HasWordOf line new.best) →
-    RunsFollow (λ line i j. MatchesSpan line t i j) old new
-follow_cut t old new sets start anywhere best = record {
+pub follow_cut : (T : List ℕ → ℕ → ℕ → Type 0) (old new : Runs) → new.sets.items ≡ old.sets.items → new.start ≡ vec_len new.sets →
+    MayBeginAnywhere new → ((line : List ℕ) (i j : ℕ) → T line i j → i ≤ length line → j ≤ length line) →
+    ((line : List ℕ) (i j : ℕ) → RunEnds old line i → T line i j → HasWordOf line old.best → HasWordOf line new.best) →
+    RunsFollow T old new
+follow_cut T old new sets start anywhere inside best = record {
   rises = omega (arith, start, old.within, ap length sets);
   grows = omega (arith, ap length sets);
   ends = λ from low high line i j h e.
       let to : vec_len new.sets ≡ max from new.start = omega (arith, start, ap length sets) in
-      subst (λ n. EndsAt line new n j) to (anywhere line j e.is_line (within line t i j h e.ends.within));
+      subst (λ n. EndsAt line new n j) to (anywhere line j e.is_line (inside line i j h e.ends.within));
   best = λ line i j h e has. best line i j e h has;
 }
 
 -- the current run ends where the span of the part ends
-run_ends : (T : List ℕ → ℕ → ℕ → Type 0) (old new : Runs) → RunsFollow T old new → (line : List ℕ) (i j : ℕ) →
+pub run_ends : (T : List ℕ → ℕ → ℕ → Type 0) (old new : Runs) → RunsFollow T old new → (line : List ℕ) (i j : ℕ) →
     T line i j → RunEnds old line i → RunEnds new line j
 run_ends T old new f line i j h e =
     let to : max old.start new.start ≡ new.start = omega (arith, f.rises) in
@@ -290,21 +290,49 @@ follow_rounds x n at m first next last some behind anywhere f sets start ends be
       best line round.0 (run_ends _ first next f line i round.0 round.1 e) (f.best line i round.0 round.1 e has);
 }
 
--- runs that begin anywhere
-pub chosen : (t : Tree) (first next last : Runs) → first.start ≡ vec_len first.sets → MayBeginAnywhere first → first.best ≡ None →
-    RunsFollow (λ line i j. MatchesSpan line t i j) first next →
-    ((line : List ℕ) (j : ℕ) → RunEndsAt (with_newline line) next.before (current_sets next) j →
-    HasWordOf line next.best → HasWordOf line last.best) →
-    (line : List ℕ) (i j : ℕ) → IsLine line → i ≤ length line → MatchesSpan line t i j → HasWordOf line last.best
-chosen t first next last begin anywhere best f kept line i j is_line here h =
-    let start : RunEnds first line i = subst (λ n. EndsAt line first n i) (sym begin) (anywhere line i is_line here) in
-    kept line j (to_newline line next j (run_ends _ first next f line i j h start))
-    (f.best line i j h start (subst (HasWordOf line) (sym best) tt))
+-- the run goes on, or began anywhere
+pub branch_ends : (line : List ℕ) (old new : Runs) (i : ℕ) → new.start ≡ 0 → new.sets.items ≡ drop old.start old.sets.items →
+    new.before ≡ old.before → new.is_at_edge ≡ old.is_at_edge → RunEnds old line i → RunEnds new line i
+branch_ends line old new i start sets before edge e = same_ends line old new old.start new.start i i
+    (sym sets ∙ ap (λ n. sets_from n new) (sym start)) refl e
+    (λ at. subst (λ set. IsBehind set line e.ends.start) (sym before) (e.before refl))
+    (λ at is. e.edge refl (sym edge ∙ is))
 
--- the same for an equal tree
-pub follow_same : (t u : Tree) (old new : Runs) → t ≡ u → RunsFollow (λ line i j. MatchesSpan line u i j) old new →
-    RunsFollow (λ line i j. MatchesSpan line t i j) old new
-follow_same t u old new e f = subst (λ (v : Tree). RunsFollow (λ line i j. MatchesSpan line v i j) old new) (sym e) f
+pub begins_here : (line : List ℕ) (runs : Runs) (i : ℕ) → runs.start ≡ vec_len runs.sets → MayBeginAnywhere runs → IsLine line →
+    i ≤ length line → RunEnds runs line i
+begins_here line runs i start anywhere is here = subst (λ n. EndsAt line runs n i) (sym start) (anywhere line i is here)
+
+-- fewer spans
+pub follow_fewer : (T U : List ℕ → ℕ → ℕ → Type 0) (old new : Runs) → ((line : List ℕ) (i j : ℕ) → U line i j → T line i j) →
+    RunsFollow T old new → RunsFollow U old new
+follow_fewer T U old new fewer f = record {
+  rises = f.rises;
+  grows = f.grows;
+  ends = λ from low high line i j h e. f.ends from low high line i j (fewer line i j h) e;
+  best = λ line i j h e has. f.best line i j (fewer line i j h) e has;
+}
+
+-- the same for an equal tree, whatever follows it
+pub follow_same : (t u : Tree) (after : List Node) (old new : Runs) → t ≡ u → RunsFollow (λ line i j. MatchesSpan line u i j) old new →
+    RunsFollow (IsFollowed after (λ line i j. MatchesSpan line t i j)) old new
+follow_same t u after old new e f = follow_fewer _ _ old new (λ line i j h. subst (λ (v : Tree). MatchesSpan line v i j) e h.0) f
+
+-- where runs end, with words that the line contains, and trees that it matches from there on
+pub record GoesOn (line : List ℕ) (runs : Runs) (ts : Trees) (j : ℕ) : Type 0 where
+  pub at : ℕ
+  pub run : RunEnds runs line at
+  pub rest : MatchesSequence line ts at j
+  pub has : HasWordOf line runs.best
+
+pub goes_on : (t u : Tree) (ts : Trees) (old new : Runs) (line : List ℕ) (j : ℕ) → t ≡ u → RunsFollow (λ line i j. MatchesSpan line u i j) old new →
+    GoesOn line old (more t ts) j → GoesOn line new ts j
+goes_on t u ts old new line j e f g =
+    let span = subst (λ (v : Tree). MatchesSpan line v g.at g.rest.0) e g.rest.1 in record {
+      at = g.rest.0;
+      run = run_ends _ old new f line g.at g.rest.0 span g.run;
+      rest = g.rest.2;
+      has = f.best line g.at g.rest.0 span g.run g.has;
+    }
 
 -- words that every span has to contain are required
 pub required : (t : Tree) (words : Option Words) (prefilter : Option (List Word × Bool)) →

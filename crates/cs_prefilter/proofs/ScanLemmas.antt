@@ -10,7 +10,7 @@ use Rattle.cs_prefilter.specs.declared.word.Word.{Word}
 use Rattle.cs_prefilter.specs.WordAt.{WordAt, NoWordFrom}
 use Rattle.cs_prefilter.specs.Probe.{MarksBits, MarksBuckets, NoneFrom}
 use Rattle.cs_prefilter.specs.WordBuckets.{AreFound, AreInBuckets}
-use Rattle.cs_prefilter.specs.Stop.{NoneUnmarked}
+use Rattle.cs_prefilter.specs.WordStop.{NoneUnmarked}
 use Rattle.cs_prefilter.proofs.WordBucketLemmas.{in_a_part}
 use Rattle.cs_prefilter.proofs.BitLemmas.{below_lowest, without_lowest, other_bit_kept}
 

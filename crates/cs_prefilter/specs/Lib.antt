@@ -11,9 +11,9 @@ pub mod ByteTest
 pub mod Pairs
 pub mod Lanes
 pub mod Buckets
-pub mod Search
+pub mod WordSearch
 pub mod Probe
 pub mod WordBuckets
 pub mod Prefixes
-pub mod Stop
+pub mod WordStop
 pub mod Sufficient

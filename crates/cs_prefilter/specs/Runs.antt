@@ -1,7 +1,9 @@
 -- Runs: what is known of the bytes before an offset of a line while the sequence of a tree is read from left
 -- to right.
 use Rattle.std.specs.Prelude.{ℕ, ◌≡◌, ◌≤◌, Bool, true, List, length, drop, max, vec_len}
-use Rattle.cs_syntax.specs.Matching.{is_at_word_boundary}
+use Rattle.cs_syntax.specs.Matching.{is_at_word_boundary, MatchesSequence}
+use Rattle.cs_syntax.specs.NodeList.{trees_of}
+use Rattle.cs_syntax.specs.declared.node.Node.{Node}
 use Rattle.cs_prefilter.specs.WordAt.{IsLine}
 use Rattle.cs_prefilter.specs.Words.{SetsEndAt, IsBehind, HasWordOf}
 use Rattle.cs_prefilter.specs.declared.runs.Runs.{Runs}
@@ -52,3 +54,7 @@ pub record RunsFollow (Spans : List ℕ → ℕ → ℕ → Type 0) (old new : R
       EndsAt line old from i → EndsAt line new (max from new.start) j
   pub best : (line : List ℕ) (i j : ℕ) → Spans line i j → RunEnds old line i →
       HasWordOf line old.best → HasWordOf line new.best
+
+-- the spans that the trees match next
+abbrev pub IsFollowed : List Node → (List ℕ → ℕ → ℕ → Type 0) → List ℕ → ℕ → ℕ → Type 0
+IsFollowed after Spans line i j = Spans line i j × ((l : ℕ) × MatchesSequence line (trees_of after) j l)

@@ -1,21 +1,22 @@
 // Runs are extended and ended, and the best word is kept.
-ghost use Rattle.std.specs.Prelude.{◌≡◌, ◌≤◌, ◌<◌, ◌-◌, ◌++◌, ◌∷◌, [], ℕ, List, None, OnOk, IsTrue, true, drop, max, length, slice_index, vec_len};
-ghost use Rattle.cs_syntax.specs.Matching.{MatchesSpan, member, one_of, line_start, line_end, word_edge};
+ghost use Rattle.std.specs.Prelude.{◌≡◌, ◌≤◌, ◌<◌, ◌-◌, ◌++◌, ◌∷◌, [], ℕ, List, None, IfOk, OnOk, IsTrue, true, drop, max, length, slice_index, vec_len};
+ghost use Rattle.cs_syntax.specs.Matching.{MatchesSpan, member, one_of, one_char, line_start, line_end, word_edge};
 ghost use Rattle.cs_prefilter.specs.WordAt.{with_newline};
 ghost use Rattle.cs_prefilter.specs.Words.{RunEndsAt, IsBehind, HasWordOf};
 ghost use Rattle.cs_prefilter.specs.Runs.{RunEnds, EndsAt, RunsFollow, KeepsBest, IsSameRun, MayBeginAnywhere};
 
-use crate::edges::{are_all, newline, other_bytes, without_newline};
-use crate::rarity::frequency_of;
+use crate::edges::{are_all, ends_of, newline, other_bytes, without_newline};
+use crate::rarity::{MOST_SETS, frequency_of};
 use crate::runs::Runs;
 use crate::search::Kind;
 use crate::words::{Words, share_of};
-use cs_syntax::ByteSet;
+use cs_syntax::{ByteSet, CharSet};
 use std::alloc::{AllocError, Global};
 
 impl Runs {
     pub(crate) fn new(alloc: Global, kind: Kind) -> Runs
         ensures start { result.start ≡ vec_len result.sets }
+        ensures sets { result.sets.items ≡ [] }
         ensures anywhere { MayBeginAnywhere result }
         ensures best { result.best ≡ None }
     {
@@ -31,6 +32,25 @@ impl Runs {
         }
     }
 
+    /// Runs of their own that begin with the current run, for a branch of an alternation.
+    pub(crate) fn branch(&self) -> Result<Runs, AllocError>
+        ensures best { IfOk result (λ runs. runs.best ≡ None) }
+        ensures ends { IfOk result (λ runs.
+            (line : List ℕ) (i : ℕ) → RunEnds self.now line i → RunEnds runs line i) }
+    {
+        let mut runs = Runs::new(self.alloc, self.kind);
+        let run = &self.sets[self.start..];
+        if run.len() > MOST_SETS {
+            return Ok(runs);
+        }
+        runs.sets.extend_from_slice(run)?;
+        let frequencies = &self.frequencies[self.start.min(self.frequencies.len())..];
+        runs.frequencies.extend_from_slice(frequencies)?;
+        runs.before = self.before;
+        runs.is_at_edge = self.is_at_edge;
+        Ok(runs)
+    }
+
     /// Extends the current run by a set. No line has a newline.
     pub(crate) fn add(&mut self, set: &ByteSet) -> Result<(), AllocError>
         ensures { OnOk result
@@ -38,6 +58,18 @@ impl Runs {
     {
         self.before = self.before_set(set);
         self.push(&without_newline(set))
+    }
+
+    /// Extends the current run by the first byte of a character of the set, and begins the next run
+    /// with its last byte.
+    pub(crate) fn add_chars(&mut self, set: &CharSet) -> Result<(), AllocError>
+        ensures { OnOk result
+            (RunsFollow (λ line i j. MatchesSpan line (one_char set.now) i j) self.old self.new) }
+    {
+        let ends = ends_of(set);
+        self.add(&ends)?;
+        self.cut_here()?;
+        self.add(&ends)
     }
 
     /// The set of the byte before the current run, if the run goes on with this set.
@@ -116,7 +148,7 @@ impl Runs {
     /// or later.
     pub(crate) fn cut(&mut self, index: usize) -> Result<(), AllocError>
         requires { index ≤ vec_len self.old.sets }
-        ensures sets { self.new.sets.items ≡ self.old.sets.items }
+        ensures sets { OnOk result (self.new.sets.items ≡ self.old.sets.items) }
         ensures start { OnOk result (self.new.start ≡ max self.old.start index) }
         ensures ends { OnOk result ((line : List ℕ) (j : ℕ) →
             EndsAt line self.old (max index self.old.start) j → RunEnds self.new line j) }
@@ -125,7 +157,7 @@ impl Runs {
         if index <= self.start {
             return Ok(());
         }
-        self.keep()?;
+        self.keep_run()?;
         self.start = index;
         self.before = ByteSet::all();
         self.is_at_edge = false;
@@ -134,7 +166,7 @@ impl Runs {
 
     /// Ends the current run.
     pub(crate) fn cut_here(&mut self) -> Result<(), AllocError>
-        ensures sets { self.new.sets.items ≡ self.old.sets.items }
+        ensures sets { OnOk result (self.new.sets.items ≡ self.old.sets.items) }
         ensures start { OnOk result (self.new.start ≡ vec_len self.new.sets) }
         ensures anywhere { OnOk result (MayBeginAnywhere self.new) }
         ensures best { OnOk result (KeepsBest self.old self.new) }
@@ -158,6 +190,20 @@ impl Runs {
         }
         self.before = ByteSet::all();
         self.is_at_edge = false;
+    }
+
+    /// Keeps the word of the current run if it is better than the best so far. A third set makes
+    /// two sets a trigram: a byte of the line follows them, or its newline.
+    pub(crate) fn keep_run(&mut self) -> Result<(), AllocError>
+        ensures run { OnOk result (IsSameRun self.old self.new) }
+        ensures best { OnOk result (KeepsBest self.old self.new) }
+    {
+        match self.kind {
+            Kind::Trigrams if self.sets.len() - self.start == 2 => self.keep_before(
+                &ByteSet::all(),
+            ),
+            _ => self.keep(),
+        }
     }
 
     /// Keeps the word of the current run if it is better than the best so far.

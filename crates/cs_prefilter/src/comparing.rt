@@ -1,6 +1,7 @@
-// Comparisons of words with the bytes at an offset.
+// Lists of words with their prefixes, and comparisons of words with the bytes at an offset.
 ghost use Rattle.std.specs.Prelude.{◌≡◌, ◌≤◌, ◌<◌, ◌↔◌, ◌+◌, ◌*◌, ◌-◌, false, length, slice_index_or, vec_len, Any, IfOk, IsTrue};
 ghost use Rattle.cs_prefilter.specs.declared.word.Word.{Word};
+ghost use Rattle.cs_prefilter.specs.Prefixes.{HavePrefixes};
 ghost use Rattle.cs_prefilter.specs.WordAt.{MayBeAt, WordAt};
 ghost use Rattle.cs_prefilter.specs.WordBuckets.{AreInBuckets, NoneOfBucket, bucket_work};
 ghost use Rattle.cs_prefilter.specs.OffsetWork.{most_words, most_sets, word_work, candidate_work};
@@ -10,8 +11,16 @@ use crate::buckets::{BUCKETS, first_in};
 use crate::prefix::{Prefix, eight_at};
 use crate::steps::Steps;
 use crate::word::Word;
-use crate::word_list::WordList;
 use std::alloc::{AllocError, Global};
+
+/// Words, and the prefix of each.
+#[derive(Drop)]
+pub(crate) struct WordList {
+    pub(crate) words: Vec<Word>,
+    pub(crate) prefixes: Vec<Prefix>,
+    ghost few: { vec_len words ≤ most_words },
+    ghost prefixed: { HavePrefixes words.items prefixes.items },
+}
 
 impl WordList {
     /// The words with their prefixes.

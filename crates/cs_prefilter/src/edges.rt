@@ -1,9 +1,10 @@
 // Sets of bytes around the edges of words and the ends of lines.
-ghost use Rattle.std.specs.Prelude.{◌≡◌, ◌<◌, ◌&&◌, ℕ, not, nat_eq, IsTrue};
+ghost use Rattle.std.specs.Prelude.{◌≡◌, ◌<◌, ◌&&◌, ◌||◌, ℕ, not, nat_eq, nat_le, IsTrue};
+ghost use Rattle.cs_syntax.specs.Characters.{has_char};
 ghost use Rattle.cs_syntax.specs.Matching.{is_word, member};
 ghost use Rattle.cs_prefilter.specs.Words.{AreAll};
 
-use cs_syntax::ByteSet;
+use cs_syntax::{ByteSet, CharSet};
 
 /// Whether the byte is an ASCII digit, an ASCII letter or `_`.
 fn is_word(byte: usize) -> bool
@@ -34,6 +35,13 @@ pub(crate) fn without_newline(set: &ByteSet) -> ByteSet
         return *set;
     }
     ByteSet::of(|b| set.contains(b as u8) && b != 10)
+}
+
+/// The first and last bytes of the encodings of the characters, and all other bytes from 128 on.
+pub(crate) fn ends_of(chars: &CharSet) -> ByteSet
+    ensures { (b : ℕ) → b < 256 → member result b ≡ (nat_le 128 b || has_char chars.now b) }
+{
+    ByteSet::of(|b| b >= 128 || chars.contains(b as u32))
 }
 
 /// Whether all members of the set are word bytes, or none is.

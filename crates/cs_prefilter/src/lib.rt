@@ -13,8 +13,10 @@
 //! word bytes, give a word of the run so far and of the byte that follows: the newline, or a byte
 //! that is no word byte. The run goes on without it. `^`, and an edge before a word byte, say what
 //! the byte before the run is, unless the line begins there. No other set has a newline, so a word
-//! lies in one line and its newline. A repeat of at least one iteration ends a run with its first
-//! iteration, and begins the next one with its last.
+//! lies in one line and its newline. A set of characters ends a run with its first byte, and begins
+//! the next one with its last, and so does a repeat of at least one iteration with its first and
+//! last iteration. The branches of an alternation continue the run before it, and are continued by
+//! the sets and assertions behind it.
 //! The rarest run gives the only word, or an alternation gives the words of all its branches,
 //! whichever is rarer. If the tree matches each of the words by itself, the prefilter is *exact*: a
 //! line has a match if and only if it contains a word.
@@ -29,7 +31,8 @@
 //!   comparison, after a mask that makes the two cases of a letter the same. Pairs are chosen by a
 //!   table of bigrams, neighbours first.
 //! - *Class trigrams*, for other words, like Teddy: the words are in eight *buckets*, neighbours of
-//!   the list in one bucket. For each of their first three sets two masks of 16 entries, one for
+//!   the list in one bucket. A word of two sets has a third of all bytes, since a byte of the line
+//!   or its newline follows. For each of their first three sets two masks of 16 entries, one for
 //!   the low nibble of a byte and one for the high nibble, give the buckets that the byte may be
 //!   in. Where the frequencies of nibbles promise few offsets, the vector test uses the low nibbles
 //!   alone. At a marked offset the six entries are read for that offset, and only the words of the
@@ -62,15 +65,13 @@ mod runs;
 mod scan;
 mod search;
 mod steps;
-mod stop;
 mod sufficient;
 mod word;
 mod word_choice;
-mod word_list;
 mod words;
 
 pub use listing::Listed;
 pub use prefilter::Prefilter;
+pub use scan::WordStop;
 pub use steps::Steps;
-pub use stop::Stop;
 pub use word::Word;

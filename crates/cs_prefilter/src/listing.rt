@@ -2,16 +2,15 @@
 // of a line.
 ghost use Rattle.std.specs.Prelude.{◌≡◌, ◌≢◌, ◌≤◌, ◌<◌, ◌+◌, ◌-◌, ◌*◌, false, length, slice_index, IsTrue};
 ghost use Rattle.cs_prefilter.specs.WordBuckets.{AreFound};
-ghost use Rattle.cs_prefilter.specs.Stop.{IsStop, decided};
+ghost use Rattle.cs_prefilter.specs.WordStop.{IsStop, decided};
 ghost use Rattle.cs_prefilter.specs.Listed.{IsFull, IsListFrom, IsLineStart, NoNewlineFrom, newline};
 ghost use Rattle.cs_prefilter.specs.OffsetWork.{list_work, offset_work};
 ghost use Rattle.cs_prefilter.specs.CountsAtMost.{CountsAtMost};
 
+use crate::comparing::WordList;
 use crate::probe::{Probe, REACH, STRIDE};
-use crate::scan::{MOST_WASTED, skip_strides};
+use crate::scan::{MOST_WASTED, WordStop, skip_strides};
 use crate::steps::Steps;
-use crate::stop::Stop;
-use crate::word_list::WordList;
 use memchr::memchr;
 
 /// The ends of the lines with a word, so many of a list, up to the offset `to`. It is the end of
@@ -88,7 +87,13 @@ impl WordList {
 
     /// The first word in the next stride, or its end; or in the rest of the text, if that is short.
     #[inline(always)]
-    fn first_near<P: Probe>(&self, probe: &P, text: &[u8], offset: usize, steps: &mut Steps) -> Stop
+    fn first_near<P: Probe>(
+        &self,
+        probe: &P,
+        text: &[u8],
+        offset: usize,
+        steps: &mut Steps,
+    ) -> WordStop
         requires within { offset < length text.now }
         requires finds { AreFound (P.Finds probe.now) self.now.words.items }
         ensures stop { IsStop self.now.words.items text.now offset result }

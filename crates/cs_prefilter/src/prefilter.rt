@@ -7,21 +7,18 @@ ghost use Rattle.cs_prefilter.specs.OffsetWork.{most_words, word_work, list_work
 ghost use Rattle.cs_prefilter.specs.CountsAtMost.{CountsAtMost};
 ghost use Rattle.cs_prefilter.specs.Words.{HasWordOf};
 
+use crate::comparing::WordList;
 use crate::listing::Listed;
-use crate::required::best;
-use crate::search::{Kind, Search};
+use crate::rarity::RARE;
+use crate::required::required;
+use crate::scan::WordStop;
+use crate::search::{Kind, WordSearch};
 use crate::steps::Steps;
-use crate::stop::Stop;
 use crate::sufficient::are_sufficient;
-use crate::word_list::WordList;
 use crate::words::{Words, share_of};
 use cs_syntax::Node;
 use std::alloc::{AllocError, Global};
 use std::marker::Model;
-
-/// Below this share of offsets, in units of 10^-12, words are searched for by pairs whatever the
-/// trigrams are.
-const RARE: u64 = 1_000_000_000;
 
 /// Below this share trigrams are worth their search, unless there are rare pairs.
 const WORTH: u64 = 5_000_000_000;
@@ -35,14 +32,14 @@ const MOST_SHARE: u64 = 10_000_000_000;
 #[derive(Drop)]
 pub struct Prefilter {
     list: WordList,
-    search: Search,
+    search: WordSearch,
     is_exact: bool,
 }
 
 impl Model for Prefilter {
     ghost use Rattle.std.specs.Prelude.{List, Bool};
     ghost use Rattle.cs_prefilter.specs.declared.word.Word.{Word};
-    ghost use Rattle.cs_prefilter.specs.Search.{Finds};
+    ghost use Rattle.cs_prefilter.specs.WordSearch.{Finds};
     ghost use Rattle.cs_prefilter.specs.WordBuckets.{AreFound};
 
     ghost Value = { List Word × Bool };
@@ -57,13 +54,13 @@ impl Prefilter {
     pub fn of(alloc: Global, root: &Node) -> Result<Option<Prefilter>, AllocError>
         ensures { IfOk result (λ prefilter. IfSome prefilter (IsPrefilterOf (tree_of root.now))) }
     {
-        let pairs = best(alloc, Kind::Pairs, root)?;
+        let pairs = required(alloc, Kind::Pairs, root)?;
         let has_rare_pairs = share_of(&pairs) < RARE;
         if has_rare_pairs && !are_slow(&pairs) {
             return Prefilter::by(alloc, root, Kind::Pairs, pairs);
         }
-        let trigrams = best(alloc, Kind::Trigrams, root)?;
-        if are_better(&trigrams, has_rare_pairs) {
+        let trigrams = required(alloc, Kind::Trigrams, root)?;
+        if are_better(&trigrams, &pairs, has_rare_pairs) {
             return Prefilter::by(alloc, root, Kind::Trigrams, trigrams);
         }
         Prefilter::by(alloc, root, Kind::Pairs, pairs)
@@ -85,7 +82,7 @@ impl Prefilter {
         let Some(words) = words else {
             return Ok(None);
         };
-        let Some(search) = Search::of(kind, &words.words) else {
+        let Some(search) = WordSearch::of(kind, &words.words) else {
             return Ok(None);
         };
         let is_exact = are_sufficient(root, &words.words);
@@ -108,7 +105,7 @@ impl Prefilter {
 
     /// Skips to the first word at or after `from`, or to the end of the text, unless too many
     /// candidates are no words.
-    pub fn skip(&self, text: &[u8], from: usize, steps: &mut Steps) -> Stop
+    pub fn skip(&self, text: &[u8], from: usize, steps: &mut Steps) -> WordStop
         requires { from ≤ length text.now }
         ensures low { from ≤ result.offset }
         ensures high { result.offset ≤ length text.now }
@@ -138,28 +135,25 @@ impl Prefilter {
     }
 }
 
+/// The search of this kind for the words, if there are any and they have what it takes.
+fn search_of(kind: Kind, words: &Option<Words>) -> Option<WordSearch> {
+    WordSearch::of(kind, &words.as_ref()?.words)
+}
+
 /// Whether the words are searched for by two pairs with masks, which takes longer than low nibbles.
 fn are_slow(words: &Option<Words>) -> bool {
-    match words {
-        Some(words) => match Search::of(Kind::Pairs, &words.words) {
-            Some(search) => search.is_slow(),
-            None => false,
-        },
-        None => false,
-    }
+    matches!(
+        search_of(Kind::Pairs, words),
+        Some(WordSearch::TwoFoldedPairs(_))
+    )
 }
 
 /// Whether the trigrams of the words are worth their search, if there are rare pairs that are slow,
 /// or no rare pairs.
-fn are_better(words: &Option<Words>, has_rare_pairs: bool) -> bool {
+fn are_better(words: &Option<Words>, pairs: &Option<Words>, has_rare_pairs: bool) -> bool {
     if !has_rare_pairs {
-        return share_of(words) < WORTH;
+        return share_of(words) < WORTH.min(share_of(pairs));
     }
-    match words {
-        Some(words) => match Search::of(Kind::Trigrams, &words.words) {
-            Some(search) => search.is_low() && words.share < RARE,
-            None => false,
-        },
-        None => false,
-    }
+    let search = search_of(Kind::Trigrams, words);
+    matches!(search, Some(WordSearch::LowNibbles(_))) && share_of(words) < RARE
 }

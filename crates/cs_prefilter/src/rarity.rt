@@ -81,20 +81,27 @@ pub(crate) struct Part {
     pub(crate) share: u64,
 }
 
-/// The rarest three neighbouring sets of a run, given the frequencies of its sets.
+/// Below this share of offsets, in units of 10^-12, candidates cost little.
+pub(crate) const RARE: u64 = 1_000_000_000;
+
+/// The first three neighbouring sets of a run that are rare, or else the rarest, given the
+/// frequencies of its sets. A word that begins where the run does may be exact.
 fn rarest_trigram(run: &[ByteSet], frequencies: &[u64]) -> Option<Part> {
-    let mut best = None;
-    let mut share = u64::MAX;
+    let mut best: Option<Part> = None;
     for (from, sets) in run.windows(3).enumerate() {
-        let mut next = 1u64;
+        let mut share = 1u64;
         for frequency in frequencies.iter().skip(from).take(3) {
-            next = next.saturating_mul(*frequency);
+            share = share.saturating_mul(*frequency);
         }
-        let next = next.saturating_add(common_share([&sets[0], &sets[1], &sets[2]]));
-        if next < share {
-            share = next;
-            best = Some(Part { from, share });
-        }
+        let share = share.saturating_add(common_share([&sets[0], &sets[1], &sets[2]]));
+        best = match best {
+            Some(part) if part.share <= share => Some(part),
+            Some(part) if part.share < RARE => Some(Part {
+                from: part.from,
+                share,
+            }),
+            _ => Some(Part { from, share }),
+        };
     }
     best
 }
@@ -103,8 +110,11 @@ fn rarest_trigram(run: &[ByteSet], frequencies: &[u64]) -> Option<Part> {
 const MOST_PAIRS: u64 = 1_000_000;
 
 /// What counts as the frequency of the second set of a pair that has none: a single byte has to be
-/// rarer than a pair, unless it is a run by itself.
+/// rarer than a pair, unless it is a run by itself or with sets of most bytes.
 const NO_SECOND: u64 = 30_000;
+
+/// A set of more bytes, as those behind a word, rules out little.
+const MOST_MEMBERS: u32 = 128;
 
 /// How rare two neighbouring letters of source text are, the underscore as the last: `a` is 1, and
 /// each further letter half as frequent. They were counted in a text that is 60 % Linux, and Python
@@ -181,7 +191,7 @@ fn share_of_neighbours(first: &ByteSet, second: &ByteSet, independent: u64) -> u
 pub(crate) fn rarest_pair(run: &[ByteSet], frequencies: &[u64]) -> Option<(usize, usize)> {
     let first = rarest_tested(run, frequencies, None)?;
     let second = rarest_tested(run, frequencies, Some(first)).unwrap_or(first);
-    let rest = if run.len() == 1 {
+    let rest = if run.iter().filter(|set| set.len() <= MOST_MEMBERS).count() == 1 {
         0
     } else if second == first {
         NO_SECOND

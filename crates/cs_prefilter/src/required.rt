@@ -6,31 +6,41 @@ ghost use Rattle.cs_syntax.specs.Node.{tree_of};
 ghost use Rattle.cs_syntax.specs.NodeList.{trees_of};
 ghost use Rattle.cs_prefilter.specs.WordAt.{IsLine};
 ghost use Rattle.cs_prefilter.specs.Words.{HasWordOf};
-ghost use Rattle.cs_prefilter.specs.Runs.{RunsFollow};
+ghost use Rattle.cs_prefilter.specs.Runs.{RunEnds, RunsFollow, IsFollowed};
 
+use crate::rarity::MOST_SETS;
 use crate::runs::Runs;
 use crate::search::Kind;
 use crate::words::Words;
 use cs_syntax::Node;
 use std::alloc::{AllocError, Global};
 
-/// The best words of the tree for this kind of search.
-#[cycle(gather)]
-pub(crate) fn best(alloc: Global, kind: Kind, node: &Node) -> Result<Option<Words>, AllocError>
+/// The words that every matching line of the tree contains, the best for this kind of search.
+pub(crate) fn required(alloc: Global, kind: Kind, node: &Node) -> Result<Option<Words>, AllocError>
     ensures { IfOk result (λ words. (line : List ℕ) (i j : ℕ) → IsLine line → i ≤ length line →
         MatchesSpan line (tree_of node.now) i j → HasWordOf line words) }
 {
-    let mut runs = Runs::new(alloc, kind);
-    gather(alloc, kind, node, &mut runs)?;
-    runs.keep()?;
+    best(node, &[], &Runs::new(alloc, kind))
+}
+
+/// The best words of the tree, which follows the current run and comes before `after`.
+#[cycle(gather)]
+fn best(node: &Node, after: &[Node], before: &Runs) -> Result<Option<Words>, AllocError>
+    ensures { IfOk result (λ words. (line : List ℕ) (i j : ℕ) → RunEnds before.now line i →
+        IsFollowed after.now (λ line. MatchesSpan line (tree_of node.now)) line i j →
+        HasWordOf line words) }
+{
+    let mut runs = before.branch()?;
+    gather(node, after, &mut runs)?;
+    keep_followed(after, &mut runs)?;
     Ok(runs.best)
 }
 
-/// Adds the next part of the sequence.
+/// Adds the next part of the sequence, which comes before `after`.
 #[cycle(gather)]
-fn gather(alloc: Global, kind: Kind, node: &Node, runs: &mut Runs) -> Result<(), AllocError>
-    ensures { OnOk result
-        (RunsFollow (λ line i j. MatchesSpan line (tree_of node.now) i j) runs.old runs.new) }
+fn gather(node: &Node, after: &[Node], runs: &mut Runs) -> Result<(), AllocError>
+    ensures { OnOk result (RunsFollow
+        (IsFollowed after.now (λ line. MatchesSpan line (tree_of node.now))) runs.old runs.new) }
 {
     match node {
         Node::Empty => Ok(()),
@@ -42,49 +52,72 @@ fn gather(alloc: Global, kind: Kind, node: &Node, runs: &mut Runs) -> Result<(),
         Node::LineEnd => runs.add_line_end(),
         Node::WordEdge => runs.add_word_edge(),
         Node::Set(set) => runs.add(set),
-        Node::Cat(parts) => gather_all(alloc, kind, parts, runs),
+        Node::Chars(set) => runs.add_chars(set),
+        Node::Cat(parts) => gather_all(parts, after, runs),
         Node::Alt(branches) => {
-            let words = best_of_each(alloc, kind, branches)?;
+            let words = best_of_each(branches, after, runs)?;
             runs.offer(words);
             runs.cut_here()
         }
         Node::Rep(x, least, _) if *least > 0 => {
             runs.begin_repeat();
             let start = runs.sets.len();
-            gather(alloc, kind, x, runs)?;
+            gather(x, &[], runs)?;
             runs.cut(start)
         }
-        Node::Rep(..) | Node::Chars(_) => runs.cut_here(),
+        Node::Rep(..) => runs.cut_here(),
     }
 }
 
 #[cycle(gather)]
-fn gather_all(alloc: Global, kind: Kind, parts: &[Node], runs: &mut Runs) -> Result<(), AllocError>
-    ensures { OnOk result
-        (RunsFollow (λ line i j. MatchesSequence line (trees_of parts.now) i j)
-        runs.old runs.new) }
+fn gather_all(parts: &[Node], after: &[Node], runs: &mut Runs) -> Result<(), AllocError>
+    ensures { OnOk result (RunsFollow
+        (IsFollowed after.now (λ line. MatchesSequence line (trees_of parts.now))) runs.old runs.new) }
 {
-    for part in parts {
-        gather(alloc, kind, part, runs)?;
+    for (i, part) in parts.iter().enumerate() {
+        let rest = &parts[i + 1..];
+        gather(part, if rest.is_empty() { after } else { rest }, runs)?;
     }
     Ok(())
 }
 
 /// The best words of all branches, if each branch has some and they are not too many.
 #[cycle(gather)]
-fn best_of_each(alloc: Global, kind: Kind, branches: &[Node]) -> Result<Option<Words>, AllocError>
-    ensures { IfOk result (λ words. (line : List ℕ) (i j : ℕ) → IsLine line → i ≤ length line →
-        MatchesBranch line (trees_of branches.now) i j → HasWordOf line words) }
+fn best_of_each(
+    branches: &[Node],
+    after: &[Node],
+    before: &Runs,
+) -> Result<Option<Words>, AllocError>
+    ensures { IfOk result (λ words. (line : List ℕ) (i j : ℕ) → RunEnds before.now line i →
+        IsFollowed after.now (λ line. MatchesBranch line (trees_of branches.now)) line i j →
+        HasWordOf line words) }
 {
-    let mut all = Words::none(alloc);
+    let mut all = Words::none(before.alloc);
     for branch in branches {
-        let Some(words) = best(alloc, kind, branch)? else {
+        let Some(words) = best(branch, after, before)? else {
             return Ok(None);
         };
-        if all.words.len() + words.words.len() > kind.most_words() {
+        if all.words.len() + words.words.len() > before.kind.most_words() {
             return Ok(None);
         }
         all.append(words)?;
     }
     Ok(Some(all))
+}
+
+/// Keeps the word of the current run and of the sets and assertions that `after` begins with.
+fn keep_followed(after: &[Node], runs: &mut Runs) -> Result<(), AllocError>
+    ensures { OnOk result ((line : List ℕ) (i j : ℕ) → RunEnds runs.old line i →
+        MatchesSequence line (trees_of after.now) i j → HasWordOf line runs.old.best →
+        HasWordOf line runs.new.best) }
+{
+    'nodes: for node in after {
+        match node {
+            Node::LineEnd => runs.add_line_end()?,
+            Node::WordEdge => runs.add_word_edge()?,
+            Node::Set(set) if runs.sets.len() < 2 * MOST_SETS => runs.add(set)?,
+            _ => break 'nodes,
+        }
+    }
+    runs.keep_run()
 }

@@ -3,15 +3,13 @@
 ghost use Rattle.std.specs.Prelude.{◌≡◌, ◌≤◌, ◌<◌, ◌+◌, ◌*◌, ◌-◌, length, min, take};
 ghost use Rattle.cs_prefilter.specs.Probe.{NoneFrom};
 ghost use Rattle.cs_prefilter.specs.WordBuckets.{AreFound};
-ghost use Rattle.cs_prefilter.specs.Stop.{IsStop, StopsBy, NoneUnmarked, decided};
+ghost use Rattle.cs_prefilter.specs.WordStop.{IsStop, StopsBy, NoneUnmarked, decided};
 ghost use Rattle.cs_prefilter.specs.OffsetWork.{offset_work};
 ghost use Rattle.cs_prefilter.specs.CountsAtMost.{CountsAtMost};
 
-use crate::comparing::occurs;
+use crate::comparing::{WordList, occurs};
 use crate::probe::{Probe, REACH, STRIDE, marks, none_passes};
 use crate::steps::Steps;
-use crate::stop::Stop;
-use crate::word_list::WordList;
 
 /// How many bytes the DFA scans in the time of a candidate that is no word: so many, and so many
 /// for each word.
@@ -26,6 +24,16 @@ pub(crate) const MOST_WASTED: usize = 4096;
 /// probed.
 const LAST: usize = 2 * STRIDE + 32;
 
+/// The end of a search for a word: at the word, at the end of the text, or where the search is
+/// given up.
+#[derive(Clone, Copy, Drop)]
+pub struct WordStop {
+    pub offset: usize,
+    pub has_word: bool,
+    /// The cost of the candidates that are no words, in bytes that the DFA scans in their time.
+    pub wasted: usize,
+}
+
 impl WordList {
     /// Skips to the first word at or after `from`, or to the end of the text, unless too many
     /// candidates are no words.
@@ -36,7 +44,7 @@ impl WordList {
         text: &[u8],
         from: usize,
         steps: &mut Steps,
-    ) -> Stop
+    ) -> WordStop
         requires within { from ≤ length text.now }
         requires finds { AreFound (P.Finds probe.now) self.now.words.items }
         ensures stop { IsStop self.now.words.items text.now from result }
@@ -50,7 +58,7 @@ impl WordList {
             wasted = wasted.saturating_add(cost.saturating_mul(stop.wasted));
             let has_word = stop.has_word;
             if has_word || wasted > (offset - from).saturating_add(MOST_WASTED) {
-                return Stop {
+                return WordStop {
                     offset: stop.offset,
                     has_word,
                     wasted,
@@ -59,7 +67,7 @@ impl WordList {
             offset = skip_strides(probe, text, stop.offset, steps);
         }
         let stop = self.first_in_rest(probe, text, offset, steps);
-        Stop {
+        WordStop {
             offset: stop.offset,
             has_word: stop.has_word,
             wasted,
@@ -80,7 +88,7 @@ impl WordList {
         text: &[u8],
         offset: usize,
         steps: &mut Steps,
-    ) -> Stop
+    ) -> WordStop
         requires within { offset + REACH ≤ length text.now }
         requires finds { AreFound (P.Finds probe.now) self.now.words.items }
         ensures stop { IsStop self.now.words.items text.now offset result }
@@ -94,7 +102,7 @@ impl WordList {
             let at = offset + k;
             if self.occur(probe.buckets(text, at), text, at, steps) {
                 steps.add(k + 1);
-                return Stop {
+                return WordStop {
                     offset: at,
                     has_word: true,
                     wasted,
@@ -104,7 +112,7 @@ impl WordList {
             rest &= !(1 << k);
         }
         steps.add(STRIDE);
-        Stop {
+        WordStop {
             offset: offset + STRIDE,
             has_word: false,
             wasted,
@@ -120,7 +128,7 @@ impl WordList {
         text: &[u8],
         from: usize,
         steps: &mut Steps,
-    ) -> Stop
+    ) -> WordStop
         requires within { from ≤ length text.now }
         requires short { length text.now < from + REACH }
         requires finds { AreFound (P.Finds probe.now) self.now.words.items }
@@ -138,7 +146,7 @@ impl WordList {
 
     /// The first word at one of the next 64 offsets, or their end, given a bit for each of them at
     /// which one may occur.
-    fn first_marked(&self, marks: u64, text: &[u8], offset: usize, steps: &mut Steps) -> Stop
+    fn first_marked(&self, marks: u64, text: &[u8], offset: usize, steps: &mut Steps) -> WordStop
         requires within { offset ≤ length text.now }
         requires marked { NoneUnmarked self.now.words.items text.now offset marks }
         ensures stop { IsStop self.now.words.items text.now offset result }
@@ -151,7 +159,7 @@ impl WordList {
             let k = rest.trailing_zeros() as usize;
             if k < len && occurs(&self.words, text, offset + k, steps) {
                 steps.add(k + 1);
-                return Stop {
+                return WordStop {
                     offset: offset + k,
                     has_word: true,
                     wasted: 0,
@@ -160,7 +168,7 @@ impl WordList {
             rest &= !(1 << k);
         }
         steps.add(len);
-        Stop {
+        WordStop {
             offset: offset + len,
             has_word: false,
             wasted: 0,

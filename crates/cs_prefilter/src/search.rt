@@ -1,20 +1,20 @@
 // The kinds of search for words, and the probes that they use.
 ghost use Rattle.std.specs.Prelude.{◌≡◌, ◌≢◌, ◌≤◌, ◌<◌, ◌+◌, ◌*◌, ◌-◌, false, length, slice_index, IfSome, vec_len};
-ghost use Rattle.cs_prefilter.specs.Search.{Finds};
+ghost use Rattle.cs_prefilter.specs.WordSearch.{Finds};
 ghost use Rattle.cs_prefilter.specs.WordBuckets.{AreFound};
-ghost use Rattle.cs_prefilter.specs.Stop.{IsStop};
+ghost use Rattle.cs_prefilter.specs.WordStop.{IsStop};
 ghost use Rattle.cs_prefilter.specs.Listed.{IsFull, IsListFrom, IsLineStart};
 ghost use Rattle.cs_prefilter.specs.OffsetWork.{most_words, list_work, offset_work};
 ghost use Rattle.cs_prefilter.specs.CountsAtMost.{CountsAtMost};
 
+use crate::comparing::WordList;
 use crate::listing::Listed;
 use crate::masks::{Nibbles, TrigramMasks};
 use crate::pair::Pair;
 use crate::pairs::Pairs;
+use crate::scan::WordStop;
 use crate::steps::Steps;
-use crate::stop::Stop;
 use crate::word::Word;
-use crate::word_list::WordList;
 
 /// What words are searched for by.
 #[derive(Clone, Copy, Drop)]
@@ -39,7 +39,7 @@ impl Kind {
 
 /// A search for words: a probe of each kind.
 #[derive(Clone, Copy, Drop)]
-pub(crate) enum Search {
+pub(crate) enum WordSearch {
     Pair(Pairs<false, false>),
     FoldedPair(Pairs<true, false>),
     TwoPairs(Pairs<false, true>),
@@ -48,27 +48,27 @@ pub(crate) enum Search {
     AllNibbles(Nibbles<true>),
 }
 
-impl Search {
+impl WordSearch {
     /// A search of this kind for the words, if they have what it takes.
-    pub(crate) fn of(kind: Kind, words: &[Word]) -> Option<Search>
+    pub(crate) fn of(kind: Kind, words: &[Word]) -> Option<WordSearch>
         requires { length words.now ≤ most_words }
         ensures { IfSome result (λ search. AreFound (Finds search) words.now) }
     {
         match kind {
-            Kind::Pairs => Search::by_pairs(words),
+            Kind::Pairs => WordSearch::by_pairs(words),
             Kind::Trigrams => {
                 let masks = TrigramMasks::of(words)?;
                 Some(if masks.is_low() {
-                    Search::LowNibbles(Nibbles { masks })
+                    WordSearch::LowNibbles(Nibbles { masks })
                 } else {
-                    Search::AllNibbles(Nibbles { masks })
+                    WordSearch::AllNibbles(Nibbles { masks })
                 })
             }
         }
     }
 
     /// A search by pairs, if the words are one or two and each has a rare pair.
-    fn by_pairs(words: &[Word]) -> Option<Search>
+    fn by_pairs(words: &[Word]) -> Option<WordSearch>
         ensures { IfSome result (λ search. AreFound (Finds search) words.now) }
     {
         match words {
@@ -76,36 +76,21 @@ impl Search {
                 let first = Pair::of(word)?;
                 let second = first;
                 Some(if first.is_folded() {
-                    Search::FoldedPair(Pairs { first, second })
+                    WordSearch::FoldedPair(Pairs { first, second })
                 } else {
-                    Search::Pair(Pairs { first, second })
+                    WordSearch::Pair(Pairs { first, second })
                 })
             }
             [word, other] => {
                 let first = Pair::of(word)?;
                 let second = Pair::of(other)?;
                 Some(if first.is_folded() || second.is_folded() {
-                    Search::TwoFoldedPairs(Pairs { first, second })
+                    WordSearch::TwoFoldedPairs(Pairs { first, second })
                 } else {
-                    Search::TwoPairs(Pairs { first, second })
+                    WordSearch::TwoPairs(Pairs { first, second })
                 })
             }
             _ => None,
-        }
-    }
-
-    /// Whether the search takes longer than one by low nibbles.
-    pub(crate) fn is_slow(&self) -> bool {
-        match self {
-            Search::TwoFoldedPairs(_) => true,
-            _ => false,
-        }
-    }
-
-    pub(crate) fn is_low(&self) -> bool {
-        match self {
-            Search::LowNibbles(_) => true,
-            _ => false,
         }
     }
 
@@ -118,19 +103,19 @@ impl Search {
         text: &[u8],
         from: usize,
         steps: &mut Steps,
-    ) -> Stop
+    ) -> WordStop
         requires within { from ≤ length text.now }
         requires finds { AreFound (Finds self.now) words.now.words.items }
         ensures stop { IsStop words.now.words.items text.now from result }
         ensures work { CountsAtMost ((result.offset - from + 1) * offset_work) steps.old steps.new }
     {
         match self {
-            Search::Pair(probe) => words.first(probe, text, from, steps),
-            Search::FoldedPair(probe) => words.first(probe, text, from, steps),
-            Search::TwoPairs(probe) => words.first(probe, text, from, steps),
-            Search::TwoFoldedPairs(probe) => words.first(probe, text, from, steps),
-            Search::LowNibbles(probe) => words.first(probe, text, from, steps),
-            Search::AllNibbles(probe) => words.first(probe, text, from, steps),
+            WordSearch::Pair(probe) => words.first(probe, text, from, steps),
+            WordSearch::FoldedPair(probe) => words.first(probe, text, from, steps),
+            WordSearch::TwoPairs(probe) => words.first(probe, text, from, steps),
+            WordSearch::TwoFoldedPairs(probe) => words.first(probe, text, from, steps),
+            WordSearch::LowNibbles(probe) => words.first(probe, text, from, steps),
+            WordSearch::AllNibbles(probe) => words.first(probe, text, from, steps),
         }
     }
 
@@ -158,12 +143,12 @@ impl Search {
         ensures work { CountsAtMost (list_work (result.to - from) result.count) steps.old steps.new }
     {
         match self {
-            Search::Pair(probe) => words.list(probe, text, from, ends, steps),
-            Search::FoldedPair(probe) => words.list(probe, text, from, ends, steps),
-            Search::TwoPairs(probe) => words.list(probe, text, from, ends, steps),
-            Search::TwoFoldedPairs(probe) => words.list(probe, text, from, ends, steps),
-            Search::LowNibbles(probe) => words.list(probe, text, from, ends, steps),
-            Search::AllNibbles(probe) => words.list(probe, text, from, ends, steps),
+            WordSearch::Pair(probe) => words.list(probe, text, from, ends, steps),
+            WordSearch::FoldedPair(probe) => words.list(probe, text, from, ends, steps),
+            WordSearch::TwoPairs(probe) => words.list(probe, text, from, ends, steps),
+            WordSearch::TwoFoldedPairs(probe) => words.list(probe, text, from, ends, steps),
+            WordSearch::LowNibbles(probe) => words.list(probe, text, from, ends, steps),
+            WordSearch::AllNibbles(probe) => words.list(probe, text, from, ends, steps),
         }
     }
 }

@@ -85,7 +85,7 @@ fn is_sufficient(root: &Node, word: &Word) -> bool
 }
 
 /// The index of the set of the word up to which the tree matches from the index `from` on. Of
-/// several branches the first that matches counts.
+/// several branches the one that matches most counts.
 #[cycle(matched_to)]
 fn matched_to(node: &Node, word: &Word, from: usize) -> Option<usize>
     requires { from ≤ vec_len word.now.sets }
@@ -134,12 +134,14 @@ fn matched_to_some(branches: &[Node], word: &Word, from: usize) -> Option<usize>
     ensures { IfSome result (MatchesPart (λ line i j. MatchesBranch line (trees_of branches.now) i j)
         word.now from) }
 {
+    let mut most = None;
     for branch in branches {
-        if let Some(to) = matched_to(branch, word, from) {
-            return Some(to);
+        let to = matched_to(branch, word, from);
+        if to > most {
+            most = to;
         }
     }
-    None
+    most
 }
 
 /// Whether all members of a set are members of the other.

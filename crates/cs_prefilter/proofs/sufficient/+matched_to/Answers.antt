@@ -1,7 +1,7 @@
-use Rattle.std.proofs.Common.{◌≡◌, ℕ, ◌+◌, ◌<◌, Bool, List, [], length, inl, refl, sym, ◌∙◌, ap, subst, arith, drop_of_length-le}
-use Rattle.std.specs.Prelude.{IfSome}
+use Rattle.std.proofs.Common.{◌≡◌, ℕ, ◌+◌, ◌<◌, Bool, List, [], drop, length, inl, inr, refl, sym, ◌∙◌, ap, subst, arith, drop_of_length-le}
+use Rattle.std.specs.Prelude.{Option, Some, None, IfSome}
 use Rattle.std.proofs.lemmas.List.{get_or_read}
-use Rattle.cs_syntax.specs.Matching.{Tree, Trees, member, cat, alt, MatchesSpan, MatchesSequence, MatchesBranch}
+use Rattle.cs_syntax.specs.Matching.{Tree, Trees, more, member, cat, alt, MatchesSpan, MatchesSequence, MatchesBranch}
 use Rattle.cs_syntax.specs.Node.{tree_of}
 use Rattle.cs_syntax.specs.NodeList.{trees_of}
 use Rattle.cs_syntax.specs.declared.node.Node.{Node}
@@ -11,11 +11,22 @@ use Rattle.cs_prefilter.specs.declared.word.Word.{Word}
 use Rattle.cs_prefilter.specs.Sufficient.{MatchesPart}
 use Rattle.cs_prefilter.proofs.SufficientLemmas.{part_set, part_start, part_end, part_edge}
 use Rattle.cs_prefilter.proofs.sufficient.+matched_to.Goals as goal
+use Rattle.cs_prefilter.proofs.sufficient.+matched_to.Goals.{matched_to_some-then-gt, matched_to_some-else-gt}
 
 -- a part of an equal tree
 part_same : (t u : Tree) (word : Word) (from to : ℕ) → t ≡ u → MatchesPart (λ line i j. MatchesSpan line u i j) word from to →
     MatchesPart (λ line i j. MatchesSpan line t i j) word from to
 part_same t u word from to e part = subst (λ (v : Tree). MatchesPart (λ line i j. MatchesSpan line v i j) word from to) (sym e) part
+
+-- a part of a tree that matches more spans
+more_spans : (S T : List ℕ → ℕ → ℕ → Type 0) (word : Word) (from : ℕ) (to : Option ℕ) → ((line : List ℕ) (i j : ℕ) → S line i j → T line i j) →
+    IfSome to (MatchesPart S word from) → IfSome to (MatchesPart T word from)
+more_spans S T word from None fewer part = tt
+more_spans S T word from (Some to) fewer part = record {
+  low = part.low;
+  high = part.high;
+  spans = λ line at is occurs. fewer line (at + from) (at + to) (part.spans line at is occurs);
+}
 
 pub matched_to-returns-then-is_within : goal.matched_to-returns-then-is_within
 matched_to-returns-then-is_within t c =
@@ -83,14 +94,27 @@ matched_to_all-returns t c =
     (subst (λ (ns : List Node). MatchesPart (λ line i j. MatchesSequence line (trees_of ns) i j) c.args.word.now at at) (sym end)
     (record { low = omega arith; high = c.loop-part.invariant.within; spans = λ line i is occurs. refl }))
 
-pub matched_to_some-returns-in-Some : goal.matched_to_some-returns-in-Some
-matched_to_some-returns-in-Some t c =
-    let found = c.in-Some.ensures in
+pub matched_to_some-loop-branch-preserved : goal.matched_to_some-loop-branch-preserved
+matched_to_some-loop-branch-preserved t c =
+    let word = c.args.word.now in
+    let from = c.args.from in
+    let branches = trees_of c.args.branches.now in
+    let part = tree_of c.branch-item.result in
+    let old = c.loop-branch.invariant in
     let next = trees_from c.args.branches.now c.loop-branch.branch-index c.branch-item.result c.loop-branch-test.true c.branch-item.is in
+    let left : (line : List ℕ) (i j : ℕ) → MatchesBranch line (more part (trees_of (drop (c.loop-branch.branch-index + 1) c.args.branches.now))) i j →
+    MatchesBranch line branches i j = λ line i j h. old.left line i j (subst (λ (ts : Trees). MatchesBranch line ts i j) (sym next) h) in
     record {
-      low = found.low;
-      high = found.high;
-      spans = λ line at is occurs. c.loop-branch.invariant line (at + c.args.from) (at + c.in-Some.to)
-          (subst (λ (ts : Trees). MatchesBranch line ts (at + c.args.from) (at + c.in-Some.to)) (sym next)
-          (inl (found.spans line at is occurs)));
+      left = λ line i j h. left line i j (inr h);
+      found = elim c.if-gt.branch [
+        | matched_to_some-then-gt w ↦
+            subst (λ most. IfSome most (MatchesPart (λ line i j. MatchesBranch line branches i j) word from)) (sym w.most-is)
+            (more_spans (λ line i j. MatchesSpan line part i j) (λ line i j. MatchesBranch line branches i j) word from c.matched_to-to.result
+            (λ line i j h. left line i j (inl h)) c.matched_to-to.ensures)
+        | matched_to_some-else-gt w ↦
+            subst (λ most. IfSome most (MatchesPart (λ line i j. MatchesBranch line branches i j) word from)) (sym w.most-is) old.found
+      ];
     }
+
+pub matched_to_some-returns : goal.matched_to_some-returns
+matched_to_some-returns t c = c.loop-branch.invariant.found

@@ -1,5 +1,5 @@
 use Rattle.std.proofs.Common.{ℕ, ◌≤◌, List, drop}
-use Rattle.std.specs.Prelude.{vec_len}
+use Rattle.std.specs.Prelude.{vec_len, IfSome}
 use Rattle.cs_syntax.specs.Matching.{MatchesSequence, MatchesBranch}
 use Rattle.cs_syntax.specs.NodeList.{trees_of}
 use Rattle.cs_prefilter.specs.Sufficient.{MatchesPart}
@@ -13,6 +13,8 @@ invariant-matched_to_all-loop-part l = record {
 }
 
 abbrev pub invariant-matched_to_some-loop-branch : goal.invariant-matched_to_some-loop-branch
-invariant-matched_to_some-loop-branch l =
-    (line : List ℕ) (i j : ℕ) → MatchesBranch line (trees_of (drop l.branch-index l.branches)) i j →
-    MatchesBranch line (trees_of l.branches) i j
+invariant-matched_to_some-loop-branch l = record {
+  left : (line : List ℕ) (i j : ℕ) → MatchesBranch line (trees_of (drop l.branch-index l.branches)) i j →
+      MatchesBranch line (trees_of l.branches) i j;
+  found : IfSome l.most (MatchesPart (λ line i j. MatchesBranch line (trees_of l.branches) i j) l.word l.from);
+}

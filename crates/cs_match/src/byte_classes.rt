@@ -86,8 +86,7 @@ fn is_begin(begins: &[u8; 256], byte: usize) -> bool
 /// Marks where word bytes begin and end, if the bits have one for them.
 fn mark_words(begins: &mut [u8], bits: LookBehind)
     requires { length begins.old ≡ 256 }
-    ensures { AddsMarks (λ b c. (is_word b && bits.word) ≡ (is_word c && bits.word))
-        begins.old begins.new }
+    ensures { AddsMarks (λ b c. (is_word b && bits.word) ≡ (is_word c && bits.word)) begins.old begins.new }
 {
     for byte in 0..255u8 {
         let before = bits.is_word(byte);

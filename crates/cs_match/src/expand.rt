@@ -45,8 +45,7 @@ fn expand_repeat(
     least: u32,
     most: Option<u32>,
 ) -> Result<Node, AllocError>
-    ensures { IfOk result
-        (λ n. tree_of n ≡ repeat_expansion (expansion (tree_of node.now)) least most) }
+    ensures { IfOk result (λ n. tree_of n ≡ repeat_expansion (expansion (tree_of node.now)) least most) }
 {
     let mut parts = Vec::new(alloc);
     match most {

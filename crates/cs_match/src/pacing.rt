@@ -1,7 +1,7 @@
 // Whether the prefilter is worth its cost, and whether one lane is faster than four. No contract
 // depends on it.
 
-use crate::one_lane::ListedLines;
+use crate::dfa::ListedLines;
 use crate::skipping::Candidate;
 use cs_prefilter::Listed;
 
@@ -99,38 +99,33 @@ impl Pacing {
         listed: ListedLines,
     ) {
         let passed = listed.to.saturating_sub(from);
-        // The DFA would have read each byte that was passed.
-        let wasted = candidate.wasted.saturating_sub(passed);
         let found = listed.count > 0;
         let skipped = match candidate.line {
             Some(line) if found => line.start.saturating_sub(from),
             _ => passed,
         };
-        if skipped >= NEAR && wasted == 0 {
-            self.wasted = 0;
-            self.backoff.last = 0;
-        } else if !found || wasted > 0 {
-            let tested = if found { 0 } else { NEAR };
-            self.wasted = self.wasted.saturating_add(wasted).saturating_add(tested);
-            if self.wasted > MOST_WASTED {
-                self.backoff.begin();
-            }
-        }
+        let tested = if found { 0 } else { NEAR };
+        self.note(skipped >= NEAR, candidate.wasted, passed, tested);
     }
 
     /// Notes how far a list of lines by their words went, and what candidates that are no words
     /// cost.
     pub(crate) fn note_list(&mut self, from: usize, words: Listed) {
-        // The DFA would have read each byte that was passed.
-        let wasted = words.wasted.saturating_sub(words.to.saturating_sub(from));
-        if wasted == 0 {
+        self.note(true, words.wasted, words.to.saturating_sub(from), 0);
+    }
+
+    /// Notes whether a candidate was far, what those before it cost, and what its test did. The DFA
+    /// would have read each byte that was passed.
+    fn note(&mut self, is_far: bool, wasted: usize, passed: usize, tested: usize) {
+        let wasted = wasted.saturating_sub(passed);
+        if is_far && wasted == 0 {
             self.wasted = 0;
             self.backoff.last = 0;
-            return;
-        }
-        self.wasted = self.wasted.saturating_add(wasted);
-        if self.wasted > MOST_WASTED {
-            self.backoff.begin();
+        } else if wasted > 0 || tested > 0 {
+            self.wasted = self.wasted.saturating_add(wasted).saturating_add(tested);
+            if self.wasted > MOST_WASTED {
+                self.backoff.begin();
+            }
         }
     }
 }

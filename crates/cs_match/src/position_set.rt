@@ -1,5 +1,5 @@
 // Sets of Glushkov positions as bit vectors.
-ghost use Rattle.std.specs.Prelude.{◌≡◌, ◌≢◌, ℕ, ◌+◌, ◌*◌, ◌<◌, ◌≤◌, ◌∷◌, ◌++◌, ◌==◌, ◌&&◌, ◌||◌, nat_le, true, false, IfOk, length, take, drop, replicate, slice_index_or, if◌then◌else◌};
+ghost use Rattle.std.specs.Prelude.{◌≡◌, ℕ, ◌+◌, ◌*◌, ◌<◌, ◌≤◌, ◌∷◌, ◌++◌, ◌==◌, ◌&&◌, nat_le, true, false, IfOk, length, take, drop, replicate, slice_index_or, if◌then◌else◌};
 ghost use Rattle.std.specs.Int.{bit_at};
 ghost use Rattle.cs_match.specs.PositionSet.{positions_of, IsPositionSet, has_from, has_bit_from, intersect, is_moved, is_selected};
 ghost use Rattle.cs_match.specs.Work.{words};
@@ -199,27 +199,6 @@ impl PositionSet {
                 | previous & if_previous.words[index]
                 | self.words[index] & if_kept.words[index];
             carried = entry >> 63;
-        }
-    }
-
-    /// Moves the set over an input after which only those of the entered positions are in it that
-    /// the mask has.
-    pub(crate) fn move_entered(
-        &mut self,
-        entries: &PositionSet,
-        if_entered: &PositionSet,
-        steps: &mut Steps,
-    )
-        requires entries { length entries.now ≡ length self.old + 1 }
-        requires if_entered { length if_entered.now ≡ length self.old }
-        ensures length { length self.new ≡ length self.old }
-        ensures each { (k : ℕ) → k < length self.old → slice_index_or self.new k false
-            ≡ (slice_index_or entries.now k false && slice_index_or if_entered.now k false) }
-        ensures cost { steps.new.count ≡ steps.old.count + words (length self.old) }
-    {
-        for index in 0..self.words.len() {
-            steps.add(1);
-            self.words[index] = entries.words[index] & if_entered.words[index];
         }
     }
 

@@ -50,9 +50,8 @@ impl Pass {
         requires within { (wanted.from ≤ length line.now) × (wanted.least ≤ length line.now) }
         requires word { is_one_word program.now ≡ true }
         requires ready { IsPassOf program.now self.old }
-        ensures found { MatchOption result
-            (HasNoMatchOf wanted.whole program.now line.now wanted.from wanted.least)
-            (λ span. IsFirstOf wanted.whole program.now line.now wanted.from wanted.least
+        ensures found { MatchOption result (HasNoMatchOf wanted.whole program.now line.now wanted.from
+            wanted.least) (λ span. IsFirstOf wanted.whole program.now line.now wanted.from wanted.least
             span.start span.end) }
         ensures read { HasRead program.now (pass_bytes (length line.now)) self.old self.new }
         ensures ready { IsPassOf program.now self.new }

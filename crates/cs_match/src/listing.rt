@@ -95,7 +95,7 @@ fn list_part(
 fn next_prefilter<'a>(program: &'a Program, pacing: &mut Pacing) -> Option<&'a Prefilter>
     ensures { IfSome result (λ prefilter. IsPrefilterOf program.now prefilter.now) }
 {
-    if pacing.uses_prefilter() {
+    if pacing.prefilter.is_over() {
         program.prefilter()
     } else {
         None
@@ -192,7 +192,7 @@ fn uses_one_lane(table: Table<'_>, pacing: &mut Pacing, text: &[u8], steps: &mut
     requires { HasRows table }
     ensures work { CountsAtMost 1024 steps.old steps.new }
 {
-    if pacing.asks_for_sample() {
+    if pacing.sampling.is_over() {
         let sample = &text[..text.len().min(SAMPLE)];
         steps.add(sample.len());
         pacing.note_sample(table.undecided(sample), sample.len());

@@ -22,7 +22,7 @@ const LONGEST: usize = 64;
 /// Exponential backoff: the number of parts before something is tried again, 1, 2, 4 and so on, as
 /// long as the answer stays.
 #[derive(Clone, Copy, Drop)]
-struct Backoff {
+pub(crate) struct Backoff {
     remaining: usize,
     last: usize,
 }
@@ -33,11 +33,11 @@ impl Backoff {
         last: 0,
     };
 
-    /// Whether it is not tried for this part. Counts the part if so.
-    fn use_one(&mut self) -> bool {
-        let is_skipped = self.remaining > 0;
+    /// Whether it is over, so that this part is a trial. Counts the part.
+    pub(crate) fn is_over(&mut self) -> bool {
+        let is_over = self.remaining == 0;
         self.remaining = self.remaining.saturating_sub(1);
-        is_skipped
+        is_over
     }
 
     /// Starts a backoff, twice as long as the last one, up to `LONGEST`.
@@ -51,29 +51,24 @@ impl Backoff {
 /// lane or four.
 #[derive(Drop)]
 pub(crate) struct Pacing {
-    /// Of the prefilter.
-    backoff: Backoff,
+    /// The prefilter is used for a part of a block if this is over.
+    pub(crate) prefilter: Backoff,
     /// The cost of near candidates in a row that had no match, in bytes that the DFA scans in their
     /// time.
     wasted: usize,
-    /// Of samples of the text.
-    sampling: Backoff,
+    /// A scan begins with a sample of the text if this is over.
+    pub(crate) sampling: Backoff,
     /// One lane is faster than four, since it leaves most lines early.
     pub(crate) one_lane: bool,
 }
 
 impl Pacing {
     pub(crate) const NEW: Pacing = Pacing {
-        backoff: Backoff::NEW,
+        prefilter: Backoff::NEW,
         wasted: 0,
         sampling: Backoff::NEW,
         one_lane: false,
     };
-
-    /// Whether the next scan begins with a sample.
-    pub(crate) fn asks_for_sample(&mut self) -> bool {
-        !self.sampling.use_one()
-    }
 
     /// Notes how many bytes of a sample are read before their lines are decided.
     pub(crate) fn note_sample(&mut self, undecided: usize, len: usize) {
@@ -83,11 +78,6 @@ impl Pacing {
             self.sampling.last = 0;
         }
         self.sampling.begin();
-    }
-
-    /// Whether the prefilter is used for the next part of a block.
-    pub(crate) fn uses_prefilter(&mut self) -> bool {
-        !self.backoff.use_one()
     }
 
     /// Notes how far the candidate of the prefilter was, what others before it cost, and whether
@@ -120,11 +110,11 @@ impl Pacing {
         let wasted = wasted.saturating_sub(passed);
         if is_far && wasted == 0 {
             self.wasted = 0;
-            self.backoff.last = 0;
+            self.prefilter.last = 0;
         } else if wasted > 0 || tested > 0 {
             self.wasted = self.wasted.saturating_add(wasted).saturating_add(tested);
             if self.wasted > MOST_WASTED {
-                self.backoff.begin();
+                self.prefilter.begin();
             }
         }
     }

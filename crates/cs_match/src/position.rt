@@ -3,7 +3,6 @@ ghost use Rattle.std.specs.Prelude.{◌≡◌, ◌++◌, OnOk};
 ghost use Rattle.cs_syntax.specs.Node.{tree_of};
 ghost use Rattle.cs_syntax.specs.NodeList.{trees_of};
 ghost use Rattle.cs_match.specs.Entered.{position_list, position_list_of, if_entered, if_previous, if_kept};
-ghost use Rattle.cs_match.specs.OneWord.{has_byte};
 
 use cs_syntax::{ByteSet, CharSet, CharStep, Node};
 use std::alloc::{AllocError, Global};
@@ -27,16 +26,6 @@ pub(crate) enum Position {
 }
 
 impl Position {
-    /// Whether the byte is in the set of the position.
-    pub(crate) fn has_byte(&self, byte: u8) -> bool
-        ensures { result ≡ has_byte self.now byte }
-    {
-        match self {
-            Position::Bytes(set) => set.contains(byte),
-            _ => false,
-        }
-    }
-
     /// Whether an entered position is in the set after the input.
     pub(crate) fn if_entered(&self, input: Input) -> bool
         ensures { result ≡ if_entered input self.now }

@@ -3,7 +3,7 @@
 ghost use Rattle.std.specs.Prelude.{◌≡◌, ◌≤◌, ◌+◌, ◌↔◌, IsTrue, MatchOption, length, true};
 ghost use Rattle.cs_syntax.specs.Node.{tree_of};
 ghost use Rattle.cs_syntax.specs.NodeList.{trees_of};
-ghost use Rattle.cs_match.specs.OneWord.{is_one_word, are_one_word, OccursAt};
+ghost use Rattle.cs_match.specs.OneWord.{is_one_word, are_one_word, has_byte, OccursAt};
 ghost use Rattle.cs_match.specs.Passes.{IsPassOf, HasRead};
 ghost use Rattle.cs_match.specs.Span.{IsFirstOf, HasNoMatchOf, IsWholeWord};
 ghost use Rattle.cs_match.specs.SpanWork.{pass_bytes};
@@ -69,6 +69,18 @@ impl Pass {
             start += 1;
         }
         None
+    }
+}
+
+impl Position {
+    /// Whether the byte is in the set of the position.
+    fn has_byte(&self, byte: u8) -> bool
+        ensures { result ≡ has_byte self.now byte }
+    {
+        match self {
+            Position::Bytes(set) => set.contains(byte),
+            _ => false,
+        }
     }
 }
 

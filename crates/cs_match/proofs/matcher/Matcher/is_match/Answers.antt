@@ -1,4 +1,4 @@
-use Rattle.std.proofs.Common.{◌↔◌, length, take, sym, subst}
+use Rattle.std.proofs.Common.{◌↔◌, length, take, subst}
 use Rattle.std.specs.Prelude.{IsTrue}
 use Rattle.cs_syntax.specs.Matching.{HasMatch}
 use Rattle.cs_match.specs.Automaton.{Automaton}

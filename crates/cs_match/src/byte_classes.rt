@@ -183,8 +183,7 @@ fn mark_digits(begins: &mut [u8], cuts: &[u32])
     }
 }
 
-/// Marks the digit of base 64 of a cut that counts blocks of this size, and the next byte if there
-/// are lower digits.
+/// Marks the digit of base 64 of a cut for blocks of this size, and the next byte if others follow.
 #[inline(always)]
 fn mark_digit(begins: &mut [u8], cut: u32, size: u32)
     requires bytes { length begins.old ≡ 256 }

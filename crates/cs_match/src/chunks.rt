@@ -1,5 +1,4 @@
-// Chunks: a part of a block is cut into four, which the lanes scan, and the lists of the lanes
-// become one.
+// Chunks: a part of a block is cut into four for the lanes, whose lists become one.
 ghost use Rattle.std.specs.Prelude.{◌≡◌, ◌≤◌, ◌<◌, ◌+◌, ◌-◌, ◌*◌, ◌++◌, length, take, drop, slice_index, slice_range};
 ghost use Rattle.cs_match.specs.ConsistentDfa.{IsConsistent, StaysConsistent, tree_in};
 ghost use Rattle.cs_match.specs.Skipping.{AreWholeLines};

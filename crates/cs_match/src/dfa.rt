@@ -51,8 +51,7 @@ pub(crate) struct ListedLines {
     pub(crate) to: usize,
 }
 
-/// A scan of some lines of a text: where they begin, how far it has come, and the number of the
-/// state there.
+/// A scan of some lines: where they begin, how far it has come, and the number of the state there.
 #[derive(Clone, Copy)]
 struct Scan {
     from: usize,
@@ -166,8 +165,7 @@ impl<'a> LazyDfa<'a> {
         Ok(LazyDfa { program, states })
     }
 
-    /// The transition of a state over a byte, computed first if it is unknown. A newline is the end
-    /// of the line.
+    /// The transition of a state over a byte, computed first if it is unknown.
     #[inline(always)]
     fn next(&mut self, from: u16, byte: u8, steps: &mut Steps) -> u16
         requires right { IsConsistent self.old }
@@ -187,8 +185,7 @@ impl<'a> LazyDfa<'a> {
         }
     }
 
-    /// Whether the line has a match. If the scan reaches a newline within the line, the whole line
-    /// is simulated.
+    /// Whether the line has a match. A line with a newline within it is simulated.
     pub(crate) fn is_match(&mut self, line: &[u8], steps: &mut Steps) -> bool
         requires right { IsConsistent self.old }
         ensures found { IsTrue result ↔ HasMatch (tree_in self.old) line.now }
@@ -242,8 +239,7 @@ impl<'a> LazyDfa<'a> {
     }
 
     /// Moves on by known transitions and, unless the text ends there, over the byte whose
-    /// transition is special or unknown. If it leads to the match state or the dead one, moves over
-    /// the rest of the line too.
+    /// transition is special or unknown, or over the rest of the line that it decides.
     #[inline(always)]
     fn advance(&mut self, text: &[u8], scan: Scan, steps: &mut Steps) -> Scan
         requires right { IsConsistent self.old }
@@ -357,9 +353,8 @@ impl<'a> LazyDfa<'a> {
         self.next_number(slot, byte, steps)
     }
 
-    /// The number of the state under construction, which is cached if it is new. It is the
-    /// successor of the state in the slot over a byte of the line, and that state does not accept
-    /// before the byte.
+    /// The number of the state under construction, which is cached if it is new: the successor of
+    /// the state in the slot, which does not accept before the byte.
     fn next_number(&mut self, slot: usize, byte: u8, steps: &mut Steps) -> u16
         requires right { IsConsistent self.old }
         requires slot { HasSlot self.old slot }

@@ -8,8 +8,7 @@ ghost use Rattle.cs_match.specs.Expansion.{expansion, expansions, with_copies, o
 use cs_syntax::{ByteSet, Node};
 use std::alloc::{AllocError, Global};
 
-/// The expansion of the tree: counted repeats become copies, and an alternation of sets of bytes
-/// becomes one set.
+/// The expansion of the tree: repeats become copies, and alternations of sets of bytes one set.
 #[cycle(expand)]
 pub(crate) fn expand(alloc: Global, node: &Node) -> Result<Node, AllocError>
     ensures { IfOk result (λ n. tree_of n ≡ expansion (tree_of node.now)) }

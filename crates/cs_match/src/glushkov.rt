@@ -133,8 +133,7 @@ impl Scratch {
     }
 }
 
-/// What holds at an offset: the position set, for each repeat whether its body is final, and the
-/// look-around.
+/// What holds at an offset: the set, for each repeat whether its body is final, the look-around.
 #[derive(Clone, Copy)]
 struct Configuration<'a> {
     positions: &'a PositionSet,
@@ -149,8 +148,7 @@ pub(crate) struct Offset {
     pub(crate) here: LookAround,
 }
 
-/// Moves the position set over the byte at the offset, and returns whether it accepts before the
-/// byte.
+/// Moves the position set over the byte at the offset, and returns whether it accepts before it.
 pub(crate) fn step_over(
     program: &Program,
     at: Offset,
@@ -236,8 +234,7 @@ fn note_loops(
     }
 }
 
-/// The ends of the tree at the current offset. For each repeat it also stores whether the body is
-/// final.
+/// The ends of the tree at the current offset. Stores for each repeat whether its body is final.
 #[cycle(find_ends)]
 fn find_ends(
     part: &Fragment,
@@ -385,8 +382,7 @@ fn enter_options(
     accepting
 }
 
-/// The same by words of 64 positions. Each option may be nothing, so all those after one that ends
-/// are entered.
+/// The same by words of 64 positions. All options after one that ends are entered.
 fn enter_many(
     n: usize,
     count: usize,
@@ -395,9 +391,7 @@ fn enter_many(
     entries: &mut PositionSet,
     cursor: &mut Cursor,
 ) -> bool
-    requires some { 0 < n }
-    requires short { n ≤ 2 }
-    requires many { 0 < count }
+    requires many { (0 < n) × (n ≤ 2) × (0 < count) }
     requires room { cursor.old.position + position_count (options n count) ≤ length positions.now }
     requires shifted { AreShifted cursor.old.position positions.now entries.old }
     ensures accepting { (here : LookAround) →
@@ -407,8 +401,7 @@ fn enter_many(
     ensures position { cursor.new.position ≡ cursor.old.position + position_count (options n count) }
     ensures repeat { cursor.new.repeat ≡ cursor.old.repeat }
 {
-    // The row is within the entries, which have one position more, so neither its end nor the next
-    // offset overflows.
+    // The row is within the entries, so neither its end nor the next offset overflows.
     prove!(cursor.position < entries.len());
     let from = cursor.position;
     let end = from + count * n;
@@ -420,20 +413,16 @@ fn enter_many(
     enter | (last < end)
 }
 
-/// Whether options are entered by words: they have one or two positions, and are so many that this
-/// is faster.
+/// Whether options are entered by words: they are short, and so many that this is faster.
 fn are_many(n: usize, count: usize) -> bool
-    ensures some { result ≡ true → 0 < n }
-    ensures short { result ≡ true → n ≤ 2 }
-    ensures many { result ≡ true → 0 < count }
+    ensures { result ≡ true → (0 < n) × (n ≤ 2) × (0 < count) }
 {
     n > 0 && n <= 2 && count > 3
 }
 
 /// The bits in each word of every nth position, position `at` included.
 fn option_bits(n: usize, at: usize) -> u64
-    requires some { 0 < n }
-    requires short { n ≤ 2 }
+    requires { (0 < n) × (n ≤ 2) }
     ensures { (k : ℕ) → (bit_at result (k % 64) == 1) ≡ ((at + k) % n == 0) }
 {
     if n == 1 {

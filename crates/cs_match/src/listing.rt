@@ -102,8 +102,7 @@ fn next_prefilter<'a>(program: &'a Program, pacing: &mut Pacing) -> Option<&'a P
     }
 }
 
-/// Completes a list of lines by their words, which may be given up within a line: that line is
-/// scanned.
+/// Completes a list of lines by their words. If it was given up within a line, the line is scanned.
 fn finish_list(
     dfa: &mut LazyDfa<'_>,
     block: &[u8],

@@ -1,6 +1,5 @@
 // Masks: what each position does over an input, one bit each. They are computed when an input is
-// seen first. All bytes of a class do the same, so that each class has one mask, that of its first
-// byte.
+// seen first. All bytes of a class do the same, so each class has one mask, that of its first byte.
 ghost use Rattle.std.specs.Prelude.{◌≡◌, ◌+◌, ◌<◌, IfOk, length, true, false, slice_index_or};
 ghost use Rattle.cs_match.specs.Entered.{position_list};
 ghost use Rattle.cs_match.specs.Masks.{IsMask, HasRoom, AreMasks};

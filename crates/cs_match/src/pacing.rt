@@ -1,5 +1,4 @@
-// Whether the prefilter is worth its cost, and whether one lane is faster than four. No contract
-// depends on it.
+// Whether the prefilter is worth its cost, and one lane faster than four. No contract cites it.
 
 use crate::dfa::ListedLines;
 use crate::skipping::Candidate;
@@ -8,8 +7,7 @@ use cs_prefilter::Listed;
 /// Below this distance between candidates without a match the DFA alone is faster than a prefilter.
 const NEAR: usize = 256;
 
-/// The cost of such candidates in a row that is put down to chance, in bytes that the DFA scans in
-/// their time.
+/// The cost of such candidates in a row that is put down to chance, in bytes scanned in their time.
 const MOST_WASTED: usize = 16 * NEAR;
 
 /// One lane is faster than four if it reads at most one of so many bytes: it jumps over the rest of
@@ -47,14 +45,12 @@ impl Backoff {
     }
 }
 
-/// Counters that guess what is faster for the text at hand: the prefilter or the DFA alone, and one
-/// lane or four.
+/// Counters that guess what is faster: the prefilter or the DFA alone, and one lane or four.
 #[derive(Drop)]
 pub(crate) struct Pacing {
     /// The prefilter is used for a part of a block if this is over.
     pub(crate) prefilter: Backoff,
-    /// The cost of near candidates in a row that had no match, in bytes that the DFA scans in their
-    /// time.
+    /// The cost of near candidates in a row that had no match, in bytes scanned in their time.
     wasted: usize,
     /// A scan begins with a sample of the text if this is over.
     pub(crate) sampling: Backoff,
@@ -80,8 +76,7 @@ impl Pacing {
         self.sampling.begin();
     }
 
-    /// Notes how far the candidate of the prefilter was, what others before it cost, and whether
-    /// its line is listed.
+    /// Notes how far a candidate was, what others before it cost, and whether its line is listed.
     pub(crate) fn note_candidate(
         &mut self,
         from: usize,
@@ -98,8 +93,7 @@ impl Pacing {
         self.note(skipped >= NEAR, candidate.wasted, passed, tested);
     }
 
-    /// Notes how far a list of lines by their words went, and what candidates that are no words
-    /// cost.
+    /// Notes how far a list by words went, and what candidates that are no words cost.
     pub(crate) fn note_list(&mut self, from: usize, words: Listed) {
         self.note(true, words.wasted, words.to.saturating_sub(from), 0);
     }

@@ -20,8 +20,7 @@ pub(crate) enum Fragment {
     Run(usize),
     /// An alternation of such sequences.
     Alternation(Sequences),
-    /// Such sequences one after another, each of them or nothing, by the positions of one and their
-    /// number.
+    /// Such sequences or nothing, one after another: the positions of one, and their number.
     Options(usize, usize),
     /// A concatenation.
     Cat(Vec<Fragment>),

@@ -155,8 +155,7 @@ impl PositionSet {
         }
     }
 
-    /// Makes this the set in which each position is moved to the next one. It has room for one
-    /// position more.
+    /// Makes this the set, with one position more, in which each one is moved to the next.
     pub(crate) fn shift_from(&mut self, from: &PositionSet, steps: &mut Steps)
         requires { length self.old ≡ length from.now + 1 }
         ensures shifted { self.new ≡ false ∷ from.now }
@@ -206,8 +205,7 @@ impl PositionSet {
     pub(crate) fn hash(&self, seed: u64) -> u64 {
         let mut mixed = seed;
         for word in &self.words {
-            // The high bits of a product depend on all bits of its factors, so they become the low
-            // ones.
+            // The high bits of a product depend on all bits of its factors: they become the low.
             mixed = (mixed ^ *word)
                 .wrapping_mul(0x9e37_79b9_7f4a_7c15)
                 .swap_bytes();

@@ -12,8 +12,7 @@ use crate::matcher::Line;
 use cs_prefilter::{Prefilter, Steps};
 use memchr::{memchr, memrchr};
 
-/// A line that may contain a word of a prefilter, such that no line before it does, or none if no
-/// line contains one.
+/// The first line that may contain a word of a prefilter, or none if no line contains one.
 #[derive(Clone, Copy)]
 pub(crate) struct Candidate {
     pub(crate) line: Option<Line>,
@@ -21,8 +20,7 @@ pub(crate) struct Candidate {
     pub(crate) wasted: usize,
 }
 
-/// The first line at or after `from` that contains a word of the prefilter, unless its search is
-/// given up before.
+/// The first line at or after `from` with a word of the prefilter, unless it is given up before.
 pub(crate) fn next_candidate(
     prefilter: &Prefilter,
     block: &[u8],

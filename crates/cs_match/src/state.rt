@@ -101,8 +101,7 @@ impl State {
         self.end(program, scratch, steps)
     }
 
-    /// Moves over a byte, and returns whether the state accepts before it. A newline is the end of
-    /// the line.
+    /// Moves over a byte, or the end of the line, and returns whether the state accepts before it.
     pub(crate) fn step_over(
         &mut self,
         program: &Program,
@@ -163,8 +162,7 @@ impl State {
         accepting
     }
 
-    /// Moves over the end of the line to the start state, and returns whether the state accepts
-    /// before it.
+    /// Moves over the end of the line to the start state. Returns whether the state accepts before.
     fn end(&mut self, program: &Program, scratch: &mut Scratch, steps: &mut Steps) -> bool
         requires one_each { length self.old.positions ≡ position_count program.now }
         requires scratch { IsScratch program.now scratch.old }

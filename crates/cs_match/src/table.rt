@@ -1,5 +1,4 @@
-// The transition table of the lazy DFA, borrowed by a scan. `specs/Table.antt` says what a scan
-// needs of it.
+// The transition table of the lazy DFA, borrowed by a scan (`specs/Table.antt`).
 ghost use Rattle.std.specs.Prelude.{◌≡◌, ◌≤◌, length};
 ghost use Rattle.cs_match.specs.Table.{next_number, unknown, table_start, IsRow, HasRows};
 

@@ -9,7 +9,7 @@ use Rattle.cs_syntax.proofs.CutLemmas.{floor_members}
 use Rattle.cs_syntax.proofs.CharStepLemmas.{char_step_members}
 use Rattle.cs_syntax.specs.declared.char_step.CharStep.TheVariants.{Single}
 use Rattle.cs_match.specs.declared.byte_classes.ByteClasses.{ByteClasses}
-use Rattle.cs_match.specs.declared.input.Input.{Input}
+use Rattle.cs_match.specs.declared.position.Input.{Input}
 use Rattle.cs_match.specs.declared.state.State.{State}
 use Rattle.cs_match.specs.declared.look_around.LookAround.{LookAround}
 use Rattle.cs_match.specs.declared.look_around.LookBehind.{LookBehind}

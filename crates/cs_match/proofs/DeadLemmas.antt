@@ -5,7 +5,7 @@ use Rattle.std.proofs.lemmas.List.{take_at, drop_at, length-replicate, replicate
 use Rattle.cs_syntax.specs.Matching.{Tree, Trees, empty, one_of, one_char, cat, alt, rep, line_start, line_end, word_edge, not_word_edge, none, more}
 use Rattle.cs_syntax.specs.declared.char_step.CharStep.{CharStep}
 use Rattle.cs_syntax.specs.declared.char_step.CharStep.TheVariants.{Nothing, Single, Begins, Inside, Completes}
-use Rattle.cs_match.specs.declared.input.Input.{Input}
+use Rattle.cs_match.specs.declared.position.Input.{Input}
 use Rattle.cs_match.specs.declared.look_around.LookAround.{LookAround}
 use Rattle.cs_match.specs.declared.state.State.{State}
 use Rattle.cs_match.specs.Anchored.{is_anchored, begins_anchored, are_anchored}

@@ -7,7 +7,7 @@ use Rattle.cs_match.specs.Lines.{newline}
 use Rattle.cs_match.specs.LastPart.{last_part}
 use Rattle.cs_match.specs.declared.table.Table.{Table}
 use Rattle.cs_match.specs.declared.lanes.Lane.{Lane}
-use Rattle.cs_match.specs.Table.{next_number, number_after, found, unknown, start, IsRow, HasRows, BeginsLine, TellsLines}
+use Rattle.cs_match.specs.Table.{next_number, number_after, found, unknown, table_start, IsRow, HasRows, BeginsLine, TellsLines}
 use Rattle.cs_match.specs.MatchingEnds.{matching_ends, newlines_between}
 use Rattle.cs_match.specs.Lanes.{IsInLine, IsLane}
 use Rattle.cs_match.proofs.LinesLemmas.{last_part-append, last_part-part, last_part-line, HasNoNewline-last_part, HasNoNewline-append}
@@ -37,7 +37,7 @@ module _ (block : List ℕ) (bytes : (k : ℕ) → Fits w8 (get_or block k 0)) w
 
 -- a lane that begins
 module _ (t : Table) (rows : HasRows t) (from : ℕ) (lane : Lane) (at-from : lane.from ≡ from)
-    (at-start : lane.number ≡ start t) (no-ends : lane.count ≡ 0) where
+    (at-start : lane.number ≡ table_start t) (no-ends : lane.count ≡ 0) where
   pub IsLane-new : (block ends : List ℕ) → IsLane t block from lane ends
   unfolding last_part number_after
   IsLane-new block ends =
@@ -49,9 +49,9 @@ module _ (t : Table) (rows : HasRows t) (from : ℕ) (lane : Lane) (at-from : la
         listed = λ has_match _ _. ap (λ n. take n ends) no-ends
             ∙ sym (ap (λ f. matching_ends has_match block f from) at-from ∙ ends-none has_match block from);
         in_line = λ has_match _ _. record {
-          first = start t;
+          first = table_start t;
           begins = inr refl;
-          after = at-start ∙ ap (λ n. number_after t (start t) (last_part (take n (drop lane.from block)))) (sym none);
+          after = at-start ∙ ap (λ n. number_after t (table_start t) (last_part (take n (drop lane.from block)))) (sym none);
         };
       }
 
@@ -100,7 +100,7 @@ module _ (t : Table) (rows : HasRows t) (block : List ℕ) (bytes : (k : ℕ) �
     moved = number ∙ ap (λ n. next_number t n b) line.after ∙ sym (number_after-more t line.first (last_part seen) b)
 
     -- at the end of a line the table tells whether it matches
-    ended : b ≡ newline → new.number ≡ cond (has_match (last_part seen)) found (start t)
+    ended : b ≡ newline → new.number ≡ cond (has_match (last_part seen)) found (table_start t)
     ended e =
         let here : new.number ≡ number_after t line.first (last_part seen ++ newline ∷ []) =
         moved ∙ ap (λ c. number_after t line.first (last_part seen ++ c ∷ [])) e in
@@ -109,7 +109,7 @@ module _ (t : Table) (rows : HasRows t) (block : List ℕ) (bytes : (k : ℕ) �
           | inr is ↦ here ∙ is
         ]
 
-    is_found : (m : Bool) → new.number ≡ cond m found (start t) → nat_eq new.number found ≡ m
+    is_found : (m : Bool) → new.number ≡ cond m found (table_start t) → nat_eq new.number found ≡ m
     is_found true e = eq-eqb new.number found e
     is_found false e = ne_eqb new.number found (λ zero_is. omega (arith, zero_is, e, some_class))
 
@@ -117,7 +117,7 @@ module _ (t : Table) (rows : HasRows t) (block : List ℕ) (bytes : (k : ℕ) �
     same_end true e = is_found (has_match (last_part seen)) (ended (eqb-true b newline e))
     same_end false e = ne_eqb new.number found (λ is. false≢true (sym e ∙ eq-eqb b newline (ends_line is)))
 
-    begins : (m : Bool) → new.number ≡ cond m found (start t) → BeginsLine t new.number
+    begins : (m : Bool) → new.number ≡ cond m found (table_start t) → BeginsLine t new.number
     begins true e = inl e
     begins false e = inr e
 

@@ -15,7 +15,7 @@ use Rattle.cs_match.specs.Skipping.{AreWholeLines, IsLineAfter, NoneMatch}
 use Rattle.cs_match.specs.MatchingEnds.{is_matching_end, matching_ends}
 use Rattle.cs_match.specs.Lanes.{AreListed}
 use Rattle.cs_match.specs.Listing.{ListsLines}
-use Rattle.cs_match.specs.declared.one_lane.ListedLines.{ListedLines}
+use Rattle.cs_match.specs.declared.dfa.ListedLines.{ListedLines}
 use Rattle.cs_match.proofs.CandidateLemmas.{line_around}
 use Rattle.cs_match.proofs.ChunkLemmas.{AreListed-append}
 use Rattle.cs_match.proofs.CountingLemmas.{count_cons, none_counted}

@@ -47,7 +47,7 @@ module _ (t : Tree) (classes : ByteClasses) (states : StateList) (transitions : 
   has_rows = record {
     few = omega (arith, count_is, are.few);
     class = λ b lt. omega (arith, class_is b, are.range b lt, count_is);
-    first = row_of 4 (table.start r) (omega (arith, right.first)) (ap (λ k. 4 * k) count_is);
+    first = row_of 4 (table.table_start r) (omega (arith, right.first)) (ap (λ k. 4 * k) count_is);
     closed = λ number b row lt.
         let within : number + get_or classes.of b 0 < length transitions =
         omega (arith, row.within, are.range b lt, count_is, ap length transitions_is) in
@@ -139,7 +139,7 @@ module _ (t : Tree) (classes : ByteClasses) (states : StateList) (transitions : 
 
   -- the number after a line from a state
   abbrev Ends : State → List ℕ → ℕ → Type 0
-  Ends n line x = (x ≡ table.unknown r) ⊎ (((x ≡ table.found) × AcceptsIn n line) ⊎ ((x ≡ table.start r) × NeverAccepts t n line))
+  Ends n line x = (x ≡ table.unknown r) ⊎ (((x ≡ table.found) × AcceptsIn n line) ⊎ ((x ≡ table.table_start r) × NeverAccepts t n line))
 
   last_byte : (n : State) (x : ℕ) → IsTransition t classes.count states.items n 10 x → Ends n [] x
   last_byte n x (unknown is) = inl (is ∙ sym count_is)

@@ -1,10 +1,9 @@
 -- The two traversals of the parts: what a part needs of the position set and of the loop flags, and what one more
 -- part adds.
-use Rattle.std.proofs.Common.{◌≡◌, ℕ, zero, suc, ◌+◌, ◌-◌, ◌≤◌, inl, inr, ◌<◌, ◌++◌, ◌||◌, ◌&&◌, List, [], ◌∷◌, Bool, true, false, take, drop, set, length, get_or, min, refl, sym, ◌∙◌, ap, arith, append_assoc, length-append, length-drop}
-use Rattle.std.proofs.lemmas.Bool.{cases_lt}
+use Rattle.std.proofs.Common.{◌≡◌, ℕ, zero, suc, ◌+◌, ◌-◌, ◌≤◌, ◌<◌, ◌++◌, ◌||◌, ◌&&◌, List, [], ◌∷◌, Bool, true, false, take, drop, set, length, get_or, refl, sym, ◌∙◌, ap, arith, append_assoc, length-append, length-drop}
 use Rattle.std.proofs.Math.Bool.{and-false, and-true, or-false, or-true, or_assoc}
 use Rattle.std.proofs.Math.ListN.{drop_of_length-le}
-use Rattle.std.proofs.Math.Seq.{sets, sets-eq, length-sets, set_out, set_comm, take-take, get_or-take}
+use Rattle.std.proofs.Math.Seq.{sets, sets-eq, set_comm, take-take, get_or-take}
 use Rattle.std.proofs.lemmas.List.{append-nil, take-append-drop, drop-drop, drop-take, length-take, get_or-drop, take_at, drop_at}
 use Rattle.cs_syntax.specs.Matching.{Tree, Trees, one_of, one_char, cat, alt, rep, none, more}
 use Rattle.cs_match.specs.declared.look_around.LookAround.{LookAround}
@@ -126,11 +125,7 @@ mutual
   length-loop_ends_of (more t ts) ms a =
       omega (arith, length-loop_ends t ms a, length-loop_ends_of ts (drop (position_count t) ms) a, length-append {A = Bool})
 
--- ---- the first traversal: flags that are written as far as the list goes
-
-sets-out : (l : List Bool) (i : ℕ) (vs : List Bool) → length l ≤ i → sets l i vs ≡ l
-sets-out l i [] le = refl
-sets-out l i (v ∷ vs) le = rw (set_out l i v le) (sets-out l (suc i) vs (omega arith))
+-- ---- the first traversal: flags that are written
 
 sets-append : (l : List Bool) (i : ℕ) (vs ws : List Bool) → sets l i (vs ++ ws) ≡ sets (sets l i vs) (i + length vs) ws
 sets-append l i [] ws = let e : i ≡ i + 0 = omega arith in ap (λ k. sets l k ws) e
@@ -144,27 +139,17 @@ set-sets l i j b (v ∷ vs) lt =
     set-sets (set l j v) i (suc j) b vs (omega arith) ∙ ap (λ (k : List Bool). sets k (suc j) vs)
     (set_comm l j i v b (λ e. absurd (omega arith)))
 
--- nothing is written past the end of the list, at whatever index
-sets-min : (l : List Bool) (i j : ℕ) (vs : List Bool) → i ≡ min (length l) j → sets l i vs ≡ sets l j vs
-sets-min l i j vs e =
-    elim (cases_lt j (length l)) [
-      | inl lt ↦ let same : i ≡ j = omega arith in ap (λ k. sets l k vs) same
-      | inr ge ↦ sets-out l i vs (omega arith) ∙ sym (sets-out l j vs ge)
-    ]
-
 -- a repeat is noted after the repeats in its body
-pub rep_noted : (l new : List Bool) (i j : ℕ) (b : Bool) (vs : List Bool) → j ≡ min (length l) (i + 1) → new ≡ sets l j vs →
-    set new i b ≡ sets l i (b ∷ vs)
-rep_noted l new i j b vs e is =
+pub rep_noted : (l new : List Bool) (i : ℕ) (b : Bool) (vs : List Bool) → new ≡ sets l (i + 1) vs → set new i b ≡ sets l i (b ∷ vs)
+rep_noted l new i b vs is =
     let n : i + 1 ≡ suc i = omega arith in
-    rw (is, sets-min l j (i + 1) vs e, n) (set-sets l i (suc i) b vs (omega arith))
+    rw (is, n) (set-sets l i (suc i) b vs (omega arith))
 
-pub more_noted : (l new : List Bool) (i j n : ℕ) (vs ws : List Bool) → length vs ≡ n → j ≡ min (length l) (i + n) → new ≡ sets l i vs →
+pub more_noted : (l new : List Bool) (i j n : ℕ) (vs ws : List Bool) → length vs ≡ n → j ≡ i + n → new ≡ sets l i vs →
     sets new j ws ≡ sets l i (vs ++ ws)
 more_noted l new i j n vs ws long e is =
-    let same : length (sets l i vs) ≡ length l = length-sets l i vs in
-    let far : i + n ≡ i + length vs = omega arith in
-    rw is (sets-min (sets l i vs) j (i + n) ws (rw same e) ∙ ap (λ k. sets (sets l i vs) k ws) far ∙ sym (sets-append l i vs ws))
+    let far : j ≡ i + length vs = omega arith in
+    rw is (ap (λ k. sets (sets l i vs) k ws) far ∙ sym (sets-append l i vs ws))
 
 -- a list that is written as a whole
 pub all_noted : (l new vs : List Bool) → length l ≡ length vs → new ≡ sets l 0 vs → new ≡ vs
@@ -184,7 +169,7 @@ module _ (t : Tree) (ts : Trees) (ms : List Bool) (a : LookAround) (p next : ℕ
       rw next_drop (or_assoc accepting (is_final t (drop p ms) a) _ ∙ rw (is_final-prefix t (drop p ms) a) at h)
 
   pub noted_more : (l new whole : List Bool) (i j : ℕ) → sets l i (loop_ends_of (more t ts) (drop p ms) a) ≡ whole →
-      j ≡ min (length l) (i + repeats t) → new ≡ sets l i (loop_ends t (drop p ms) a) →
+      j ≡ i + repeats t → new ≡ sets l i (loop_ends t (drop p ms) a) →
       sets new j (loop_ends_of ts (drop next ms) a) ≡ whole
   noted_more l new whole i j h e n =
       rw next_drop (more_noted l new i j (repeats t) (loop_ends t (drop p ms) a)

@@ -34,6 +34,10 @@ pub record IsConsistent (t : LazyDfa) : Type 0 where
   pub room : length t.states.scratch.positions ≡ position_count (tree_in t)
   pub memory : IsScratch (tree_in t) t.states.memory
 
+-- it stays so, and so does its tree
+abbrev pub StaysConsistent : LazyDfa → LazyDfa → Type 0
+StaysConsistent old new = IsConsistent new × (tree_in new ≡ tree_in old)
+
 -- the state in this slot
 abbrev pub state_in : LazyDfa → ℕ → State
 state_in t slot = dfa.state_at (tree_in t) t.states.cached.items slot

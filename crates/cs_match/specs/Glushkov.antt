@@ -11,7 +11,7 @@ use Rattle.cs_syntax.specs.CharSteps.{finished, char_step, unfinished_after, tak
 use Rattle.cs_syntax.specs.declared.char_step.Unfinished.{Unfinished}
 use Rattle.cs_syntax.specs.declared.char_step.CharStep.{CharStep}
 use Rattle.cs_syntax.specs.declared.char_step.CharStep.TheVariants.{Nothing}
-use Rattle.cs_match.specs.declared.input.Input.{Input}
+use Rattle.cs_match.specs.declared.position.Input.{Input}
 use Rattle.cs_match.specs.declared.look_around.LookAround.{LookAround}
 use Rattle.cs_match.specs.declared.look_around.LookBehind.{LookBehind}
 use Rattle.cs_match.specs.LookBehind.{look_behind}

@@ -2,7 +2,7 @@
 use Rattle.std.specs.Prelude.{ℕ, ◌≡◌, ◌<◌, ◌≤◌, ◌+◌, ◌-◌, List, length, slice_index, slice_range}
 use Rattle.cs_syntax.specs.Matching.{Tree}
 use Rattle.cs_prefilter.specs.declared.listing.Listed.{Listed}
-use Rattle.cs_match.specs.declared.one_lane.ListedLines.{ListedLines}
+use Rattle.cs_match.specs.declared.dfa.ListedLines.{ListedLines}
 use Rattle.cs_match.specs.Deciding.{Decides}
 use Rattle.cs_match.specs.Lanes.{AreListed}
 use Rattle.cs_match.specs.NoNewline.{HasNoNewline}

@@ -1,5 +1,5 @@
 -- The masks of a program.
-use Rattle.std.specs.Prelude.{ℕ, ◌≡◌, ◌+◌, ◌<◌, true, false, List, length, map, vec_len, slice_index_or}
+use Rattle.std.specs.Prelude.{ℕ, ◌≡◌, ◌+◌, ◌<◌, true, List, length, map, vec_len, slice_index_or}
 use Rattle.cs_syntax.specs.Matching.{Tree}
 use Rattle.cs_match.specs.declared.position.Position.{Position}
 use Rattle.cs_match.specs.declared.masks.Mask.{Mask}
@@ -14,16 +14,11 @@ pub record HasRoom (count : ℕ) (mask : Mask) : Type 0 where
   pub previous : length mask.previous ≡ count
   pub kept : length mask.kept ≡ count
 
--- only entered positions are in a set after the input
-abbrev pub IsOneMask : Mask → Type 0
-IsOneMask mask = (k : ℕ) → (slice_index_or mask.previous k false ≡ false) × (slice_index_or mask.kept k false ≡ false)
-
 -- the mask says what each position does over its input
 pub record IsMask (ps : List Position) (mask : Mask) : Type 0 where
   pub entered : mask.entered ≡ map (if_entered mask.input) ps
   pub previous : mask.previous ≡ map (if_previous mask.input) ps
   pub kept : mask.kept ≡ map (if_kept mask.input) ps
-  pub one_mask : mask.is_one_mask ≡ true → IsOneMask mask
 
 -- there is a mask, and each that is known is that of its input
 pub record AreMasks (ps : List Position) (masks : Masks) : Type 0 where

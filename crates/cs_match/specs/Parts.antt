@@ -3,9 +3,9 @@ use Rattle.std.specs.Prelude.{ℕ, suc, ◌≡◌, ◌+◌, sum, Bool, List, [],
 use Rattle.cs_syntax.specs.Matching.{Tree, Trees, one_of, cat, alt, rep, line_start, line_end, word_edge, not_word_edge, none, more}
 use Rattle.cs_syntax.specs.Node.{trees}
 use Rattle.cs_match.specs.declared.look_around.LookAround.{LookAround}
-use Rattle.cs_match.specs.declared.parts.Part.{Part}
-use Rattle.cs_match.specs.declared.parts.Part.TheOpen.{Part-F}
-use Rattle.cs_match.specs.declared.parts.Part.TheFolds.{fold-Part}
+use Rattle.cs_match.specs.declared.parts.Fragment.{Fragment}
+use Rattle.cs_match.specs.declared.parts.Fragment.TheOpen.{Fragment-F}
+use Rattle.cs_match.specs.declared.parts.Fragment.TheFolds.{fold-Fragment}
 use Rattle.cs_match.specs.Glushkov.{position_count, position_count_of, repeats, nullable, is_final, loop_ends}
 use Rattle.cs_match.specs.Expansion.{copies}
 use Rattle.cs_match.specs.Entered.{entered}
@@ -29,42 +29,42 @@ abbrev pub options : ℕ → ℕ → Tree
 options n count = cat (copies count (optional_run n) none)
 
 -- the shape of a part: a tree with such sets
-abbrev pub shape_step : Part-F Tree → Tree
-shape_step (Part-F.Run n) = run n
-shape_step (Part-F.Alternation ns) = alt (runs ns)
-shape_step (Part-F.Options n count) = options n count
-shape_step (Part-F.Cat parts) = cat (trees parts.items)
-shape_step (Part-F.Alt parts) = alt (trees parts.items)
-shape_step (Part-F.Rep x n) = rep x.value n None
-shape_step Part-F.LineStart = line_start
-shape_step Part-F.LineEnd = line_end
-shape_step Part-F.WordEdge = word_edge
-shape_step Part-F.NotWordEdge = not_word_edge
+abbrev pub shape_step : Fragment-F Tree → Tree
+shape_step (Fragment-F.Run n) = run n
+shape_step (Fragment-F.Alternation ns) = alt (runs ns)
+shape_step (Fragment-F.Options n count) = options n count
+shape_step (Fragment-F.Cat parts) = cat (trees parts.items)
+shape_step (Fragment-F.Alt parts) = alt (trees parts.items)
+shape_step (Fragment-F.Rep x n) = rep x.value n None
+shape_step Fragment-F.LineStart = line_start
+shape_step Fragment-F.LineEnd = line_end
+shape_step Fragment-F.WordEdge = word_edge
+shape_step Fragment-F.NotWordEdge = not_word_edge
 
-abbrev pub shape_of : Part → Tree
-shape_of = fold-Part Tree shape_step
+abbrev pub shape_of : Fragment → Tree
+shape_of = fold-Fragment Tree shape_step
 
-abbrev pub shapes_of : List Part → Trees
+abbrev pub shapes_of : List Fragment → Trees
 shapes_of ps = trees (map shape_of ps)
 
 -- the steps of a traversal: it visits each part and each option once, and of an alternation of sequences each word of
 -- its positions
-abbrev pub size_step : Part-F ℕ → ℕ
-size_step (Part-F.Run n) = 1
-size_step (Part-F.Alternation ns) = 1 + words (position_count_of (runs ns))
-size_step (Part-F.Options n count) = 1 + count
-size_step (Part-F.Cat parts) = 1 + sum parts.items
-size_step (Part-F.Alt parts) = 1 + sum parts.items
-size_step (Part-F.Rep x n) = 1 + x.value
-size_step Part-F.LineStart = 1
-size_step Part-F.LineEnd = 1
-size_step Part-F.WordEdge = 1
-size_step Part-F.NotWordEdge = 1
+abbrev pub size_step : Fragment-F ℕ → ℕ
+size_step (Fragment-F.Run n) = 1
+size_step (Fragment-F.Alternation ns) = 1 + words (position_count_of (runs ns))
+size_step (Fragment-F.Options n count) = 1 + count
+size_step (Fragment-F.Cat parts) = 1 + sum parts.items
+size_step (Fragment-F.Alt parts) = 1 + sum parts.items
+size_step (Fragment-F.Rep x n) = 1 + x.value
+size_step Fragment-F.LineStart = 1
+size_step Fragment-F.LineEnd = 1
+size_step Fragment-F.WordEdge = 1
+size_step Fragment-F.NotWordEdge = 1
 
-abbrev pub size_of : Part → ℕ
-size_of = fold-Part ℕ size_step
+abbrev pub size_of : Fragment → ℕ
+size_of = fold-Fragment ℕ size_step
 
-abbrev pub sizes_of : List Part → ℕ
+abbrev pub sizes_of : List Fragment → ℕ
 sizes_of ps = sum (map size_of ps)
 
 -- trees whose position sets enter and end alike, whatever their sets are

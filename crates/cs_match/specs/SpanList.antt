@@ -4,7 +4,7 @@ use Rattle.cs_syntax.specs.Matching.{Tree}
 use Rattle.cs_match.specs.Span.{AreSpansFrom}
 use Rattle.cs_match.specs.SpanWork.{Finding}
 use Rattle.cs_match.specs.declared.spans.Span.{Span}
-use Rattle.cs_match.specs.declared.spans.Listed.{Listed}
+use Rattle.cs_match.specs.declared.spans.ListedSpans.{ListedSpans}
 use Rattle.cs_match.specs.declared.spans.pass.Pass.{Pass}
 
 -- what contracts see of a program and its pass
@@ -16,7 +16,7 @@ abbrev pub first_spans : ℕ → List Span → List (ℕ × ℕ)
 first_spans count buffer = map (λ span. (span.start, span.end)) (take count buffer)
 
 -- The first matches of a line, and all of them unless the list was stopped. The rest of the buffer stays as it was.
-pub record IsListing (whole : Bool) (t : Tree) (s : List ℕ) (old new : List Span) (listed : Listed) : Type 0 where
+pub record IsListing (whole : Bool) (t : Tree) (s : List ℕ) (old new : List Span) (listed : ListedSpans) : Type 0 where
   pub spans : AreSpansFrom (not listed.stopped) whole t s 0 0 (first_spans listed.count new)
   pub within : listed.count ≤ length old
   pub size : length new ≡ length old

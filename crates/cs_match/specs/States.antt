@@ -4,7 +4,7 @@ use Rattle.std.specs.Prelude.{ℕ, ◌≡◌, Bool, true, false, ◌&&◌, List,
 use Rattle.std.specs.Bool.{xor}
 use Rattle.cs_syntax.specs.Matching.{Tree, is_word}
 use Rattle.cs_syntax.specs.CharSteps.{finished, unfinished_after}
-use Rattle.cs_match.specs.declared.input.Input.{Input}
+use Rattle.cs_match.specs.declared.position.Input.{Input}
 use Rattle.cs_match.specs.declared.look_around.LookAround.{LookAround}
 use Rattle.cs_match.specs.declared.state.State.{State}
 use Rattle.cs_match.specs.Lines.{newline}

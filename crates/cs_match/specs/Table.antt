@@ -27,8 +27,8 @@ abbrev pub unknown : Table → ℕ
 unknown t = t.count
 
 -- the start state, where a scan begins and where other lines end
-abbrev pub start : Table → ℕ
-start t = 4 * t.count
+abbrev pub table_start : Table → ℕ
+table_start t = 4 * t.count
 
 -- the number is that of a row of the table
 pub record IsRow (t : Table) (number : ℕ) : Type 0 where
@@ -40,17 +40,17 @@ pub record IsRow (t : Table) (number : ℕ) : Type 0 where
 pub record HasRows (t : Table) : Type 0 where
   pub few : t.count ≤ 256
   pub class : (b : ℕ) → b < 256 → class_of t b < t.count
-  pub first : IsRow t (start t)
+  pub first : IsRow t (table_start t)
   pub closed : (number b : ℕ) → IsRow t number → b < 256 → IsRow t (next_number t number b)
   pub ends : (number b : ℕ) → IsRow t number → b < 256 → next_number t number b ≡ found → b ≡ newline
 
 -- a line begins in the state in which the line before it ended
 abbrev pub BeginsLine : Table → ℕ → Type 0
-BeginsLine t number = (number ≡ found) ⊎ (number ≡ start t)
+BeginsLine t number = (number ≡ found) ⊎ (number ≡ table_start t)
 
 -- The table tells which lines have a match, except a line with an unknown transition.
 pub record TellsLines (has_match : List ℕ → Bool) (t : Table) : Type 0 where
   pub absorbs : (b : ℕ) → b < 256 → next_number t (unknown t) b ≡ unknown t
   pub tells : (number : ℕ) (line : List ℕ) → BeginsLine t number → AreBytes line → HasNoNewline line →
       (number_after t number (line ++ newline ∷ []) ≡ unknown t)
-      ⊎ (number_after t number (line ++ newline ∷ []) ≡ (if has_match line then found else start t))
+      ⊎ (number_after t number (line ++ newline ∷ []) ≡ (if has_match line then found else table_start t))

@@ -5,17 +5,17 @@ use Rattle.cs_syntax.specs.Matching.{Tree, cat, alt}
 use Rattle.cs_match.specs.declared.glushkov.Configuration.{Configuration}
 use Rattle.cs_match.specs.declared.glushkov.Cursor.{Cursor}
 use Rattle.cs_match.specs.declared.look_around.LookAround.{LookAround}
-use Rattle.cs_match.specs.declared.parts.Part.{Part}
+use Rattle.cs_match.specs.declared.parts.Fragment.{Fragment}
 use Rattle.cs_match.specs.Entered.{entered}
 use Rattle.cs_match.specs.Glushkov.{position_count, repeats, is_final, accepts, loop_ends}
 use Rattle.cs_match.specs.Parts.{shapes_of}
 
 -- the concatenation of some parts
-abbrev pub all_of : List Part → Tree
+abbrev pub all_of : List Fragment → Tree
 all_of parts = cat (shapes_of parts)
 
 -- the alternation of some parts
-abbrev pub any_of : List Part → Tree
+abbrev pub any_of : List Fragment → Tree
 any_of parts = alt (shapes_of parts)
 
 -- the position after those of the tree

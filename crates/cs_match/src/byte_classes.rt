@@ -86,8 +86,7 @@ fn is_begin(begins: &[u8; 256], byte: usize) -> bool
 /// Marks where word bytes begin and end, if the bits have one for them.
 fn mark_words(begins: &mut [u8], bits: LookBehind)
     requires { length begins.old ≡ 256 }
-    ensures { AddsMarks (λ b c. (is_word b && bits.word) ≡ (is_word c && bits.word))
-        begins.old begins.new }
+    ensures { AddsMarks (λ b c. (is_word b && bits.word) ≡ (is_word c && bits.word)) begins.old begins.new }
 {
     for byte in 0..255u8 {
         let before = bits.is_word(byte);
@@ -184,8 +183,7 @@ fn mark_digits(begins: &mut [u8], cuts: &[u32])
     }
 }
 
-/// Marks the digit of base 64 of a cut that counts blocks of this size, and the next byte if there
-/// are lower digits.
+/// Marks the digit of base 64 of a cut for blocks of this size, and the next byte if others follow.
 #[inline(always)]
 fn mark_digit(begins: &mut [u8], cut: u32, size: u32)
     requires bytes { length begins.old ≡ 256 }

@@ -1,5 +1,4 @@
-// The states that a lazy DFA has cached, in flat vectors, and a hash table in which they are looked
-// for.
+// The states that a lazy DFA has cached, in flat vectors, and a hash table to look them up.
 ghost use Rattle.std.specs.Prelude.{◌≡◌, ◌+◌, ◌*◌, ◌<◌, ◌≤◌, ◌∷◌, ◌++◌, [], IfOk, IfSome, length, take, slice_index_or, true};
 ghost use Rattle.cs_match.specs.declared.state.State.{State};
 ghost use Rattle.cs_match.specs.CachedStates.{behind_of};
@@ -24,8 +23,7 @@ pub(crate) struct Behind {
     pub(crate) unfinished: Unfinished,
 }
 
-/// What a look-up gives: the slot of an equal cached state, if there is one there, and a place for
-/// the state in the hash table.
+/// What a look-up gives: the slot of an equal cached state, if any, and a place for the state.
 #[derive(Clone, Copy)]
 pub(crate) struct Lookup {
     pub(crate) slot: Option<usize>,
@@ -39,8 +37,7 @@ pub(crate) struct CachedStates {
     sets: Vec<u64>,
     /// The rest of each state.
     behinds: Vec<Behind>,
-    /// The hash table has a slot at each place. It is in use if it is that of a state with this
-    /// place.
+    /// The hash table: a slot at each place, in use if it is that of a state with this place.
     slots: Vec<u16>,
     /// The place of each state.
     places: Vec<u32>,
@@ -95,8 +92,7 @@ impl Behind {
 }
 
 impl CachedStates {
-    /// No states of so many positions, with room for so many. Their pages are touched as states are
-    /// cached.
+    /// No states, with room for so many. Their pages are touched as states are cached.
     pub(crate) fn new(alloc: Global, most: usize, count: usize) -> Result<CachedStates, AllocError>
         requires some { 0 < most }
         requires few { most < 65536 }

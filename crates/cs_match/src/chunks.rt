@@ -1,15 +1,15 @@
-// Chunks: a part of a block is cut into four, which the lanes scan, and the lists of the lanes
-// become one.
+// Chunks: a part of a block is cut into four for the lanes, whose lists become one.
 ghost use Rattle.std.specs.Prelude.{◌≡◌, ◌≤◌, ◌<◌, ◌+◌, ◌-◌, ◌*◌, ◌++◌, length, take, drop, slice_index, slice_range};
+ghost use Rattle.cs_match.specs.ConsistentDfa.{IsConsistent, StaysConsistent, tree_in};
 ghost use Rattle.cs_match.specs.Skipping.{AreWholeLines};
 ghost use Rattle.cs_match.specs.Deciding.{Decides};
 ghost use Rattle.cs_match.specs.Work.{byte_work};
 ghost use Rattle.cs_match.specs.Lanes.{IsCut, IsChunk, AreCuts, AreChunks, AreListed};
 ghost use Rattle.cs_prefilter.specs.CountsAtMost.{CountsAtMost};
 
+use crate::dfa::{LazyDfa, ListedLines};
 use crate::lanes::four_lanes;
-use crate::lines::line_end;
-use crate::one_lane::{ListedLines, OneLane};
+use crate::skipping::line_end;
 use cs_prefilter::Steps;
 
 /// The least size of a chunk in bytes, except at the end of a block.
@@ -61,22 +61,22 @@ pub(crate) fn append(ends: &mut [usize], count: usize, from: usize, more: usize)
 
 /// Lists the ends of the matching lines of four chunks, at least of one line. A chunk with an
 /// unknown transition is scanned once more, by one lane.
-pub(crate) fn list_chunks<D: OneLane>(
-    dfa: &mut D,
+pub(crate) fn list_chunks(
+    dfa: &mut LazyDfa<'_>,
     block: &[u8],
     from: usize,
     ends: &mut [usize],
     steps: &mut Steps,
 ) -> ListedLines
-    requires right { D.is_right dfa.old }
+    requires right { IsConsistent dfa.old }
     requires within { from ≤ length block.now }
     requires whole { AreWholeLines (drop from block.now) }
     requires room { 4 ≤ length ends.old }
-    ensures listed { AreListed (λ has_match. Decides has_match (D.tree dfa.old))
+    ensures listed { AreListed (λ has_match. Decides has_match (tree_in dfa.old))
         block.now from result.to result.count ends.new }
     ensures moves { from < length block.now → from < result.to }
-    ensures dfa { D.is_right dfa.new × (D.tree dfa.new ≡ D.tree dfa.old) }
-    ensures work { CountsAtMost ((byte_work (D.tree dfa.old) + 3) * (result.to - from)) steps.old steps.new }
+    ensures dfa { StaysConsistent dfa.old dfa.new }
+    ensures work { CountsAtMost ((byte_work (tree_in dfa.old) + 3) * (result.to - from)) steps.old steps.new }
 {
     let quarter = ends.len() / 4;
     let size = (quarter - 1).min((block.len() - from) / 4 + LEAST);

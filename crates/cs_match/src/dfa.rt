@@ -1,28 +1,28 @@
 // Lazy DFA (RE2): subset construction on demand over Glushkov positions (`specs/Glushkov.antt`),
 // with a bounded cache of states that is cleared when it is full.
-ghost use Rattle.std.specs.Prelude.{◌≡◌, ◌≢◌, ◌↔◌, ◌+◌, ◌-◌, ◌<◌, ◌≤◌, ◌*◌, ℕ, Bool, List, IfOk, IsTrue, nat_eq, length, drop, slice_index, vec_capacity, true, false};
+ghost use Rattle.std.specs.Prelude.{◌≡◌, ◌≢◌, ◌↔◌, ◌+◌, ◌-◌, ◌<◌, ◌≤◌, ◌*◌, ℕ, Bool, List, IfOk, IsTrue, nat_eq, length, drop, slice_index, slice_range, vec_capacity, true, false};
 ghost use Rattle.cs_syntax.specs.Matching.{HasMatch};
-ghost use Rattle.cs_match.specs.Work.{words, step_work, byte_work, line_work};
+ghost use Rattle.cs_match.specs.Work.{words, byte_work, line_work};
 ghost use Rattle.cs_match.specs.Deciding.{Decides};
-ghost use Rattle.cs_match.specs.Table.{next_number, number_after, start as table_start, unknown, HasRows, TellsLines};
+ghost use Rattle.cs_match.specs.Table.{next_number, number_after, table_start, unknown, HasRows, TellsLines};
 ghost use Rattle.cs_match.specs.Scanned.{HasScanned, FollowsKnown, ListsLine, PassesLines};
 ghost use Rattle.cs_match.specs.Lines.{newline};
 ghost use Rattle.cs_match.specs.Skipping.{AreWholeLines};
+ghost use Rattle.cs_match.specs.Skipped.{AreLinesBetween};
+ghost use Rattle.cs_match.specs.Lanes.{AreListed};
 ghost use Rattle.cs_match.specs.Glushkov.{position_count, cuts_of};
 ghost use Rattle.cs_match.specs.Digits.{IsBlock};
-ghost use Rattle.cs_match.specs.Masks.{IsScratch};
 ghost use Rattle.cs_match.specs.States.{start, successor, accepts_before, IsDead};
 ghost use Rattle.cs_match.specs.LazyDfa.{until_newline, accepted_number, most_rows, AreFirstRows, AreFirstStates, match_number, dead_number, start_number};
 ghost use Rattle.cs_match.specs.declared.state.State.{State};
-ghost use Rattle.cs_match.specs.ConsistentDfa.{IsConsistent, IsKnown, IsTableOf, table_in, HasSlot, HasState, LeadsIn, tree_in, count_in, state_in};
+ghost use Rattle.cs_match.specs.ConsistentDfa.{IsConsistent, StaysConsistent, IsKnown, IsTableOf, table_in, HasSlot, HasState, LeadsIn, tree_in, count_in, state_in};
 ghost use Rattle.cs_prefilter.specs.CountsAtMost.{CountsAtMost};
 
 use crate::byte_classes::ByteClasses;
 use crate::cached_states::CachedStates;
 use crate::glushkov::Scratch;
-use crate::lines::line_end;
-use crate::one_lane::{ListedLines, OneLane};
 use crate::program::Program;
+use crate::skipping::line_end;
 use crate::state::State;
 use crate::table::Table;
 use cs_prefilter::Steps;
@@ -44,8 +44,14 @@ const LEAST_STATES: usize = 254;
 /// The most words of the position sets of more states: 2 MB.
 const MOST_WORDS: usize = 262144;
 
-/// A scan of some lines of a text: where they begin, how far it has come, and the number of the
-/// state there.
+/// How many ends of matching lines are listed, and the offset up to which.
+#[derive(Clone, Copy)]
+pub(crate) struct ListedLines {
+    pub(crate) count: usize,
+    pub(crate) to: usize,
+}
+
+/// A scan of some lines: where they begin, how far it has come, and the number of the state there.
 #[derive(Clone, Copy)]
 struct Scan {
     from: usize,
@@ -110,9 +116,8 @@ fn push_row(transitions: &mut Vec<u16>, classes: &ByteClasses, stays: u16, ends:
     ensures len { length transitions.new.items ≡ length transitions.old.items + classes.now.count }
     ensures kept { (k : ℕ) → k < length transitions.old.items →
         slice_index transitions.new.items k ≡ slice_index transitions.old.items k }
-    ensures row { (c : ℕ) → c < classes.now.count →
-        slice_index transitions.new.items (length transitions.old.items + c) ≡
-        until_newline classes.now stays ends c }
+    ensures row { (c : ℕ) → c < classes.now.count → slice_index transitions.new.items (length
+        transitions.old.items + c) ≡ until_newline classes.now stays ends c }
     ensures room { vec_capacity transitions.old ≤ vec_capacity transitions.new }
 {
     let newline = u16::from(classes.of[b'\n' as usize]);
@@ -138,27 +143,6 @@ fn write_first(transitions: &mut Vec<u16>, classes: &ByteClasses)
     push_row(transitions, classes, unknown, unknown);
 }
 
-/// Makes the state its successor over a byte, and returns whether it accepts before the byte.
-fn step_over(
-    program: &Program,
-    state: &mut State,
-    memory: &mut Scratch,
-    byte: u8,
-    steps: &mut Steps,
-) -> bool
-    requires positions { length state.old.positions ≡ position_count program.now }
-    requires block { IsBlock (cuts_of program.now) state.old.unfinished }
-    requires memory { IsScratch program.now memory.old }
-    ensures accepting { result ≡ accepts_before program.now state.old byte }
-    ensures moved { state.new ≡ successor program.now state.old byte }
-    ensures memory { IsScratch program.now memory.new }
-    ensures cost { CountsAtMost (step_work program.now) steps.old steps.new }
-{
-    // All bytes of the class have the same successor, so that one mask serves them.
-    let first = program.byte_classes().first(byte);
-    state.step_over(program, memory, first, steps)
-}
-
 impl<'a> LazyDfa<'a> {
     /// A DFA whose cache has only the first states.
     pub(crate) fn new(alloc: Global, program: &'a Program) -> Result<LazyDfa<'a>, AllocError>
@@ -181,15 +165,13 @@ impl<'a> LazyDfa<'a> {
         Ok(LazyDfa { program, states })
     }
 
-    /// The transition of a state over a byte, computed first if it is unknown. A newline is the end
-    /// of the line.
+    /// The transition of a state over a byte, computed first if it is unknown.
     #[inline(always)]
     fn next(&mut self, from: u16, byte: u8, steps: &mut Steps) -> u16
         requires right { IsConsistent self.old }
         requires number { (state : State) × HasState self.old from state }
         ensures leads { (state : State) → HasState self.old from state → LeadsIn self.new state byte result }
-        ensures right { IsConsistent self.new }
-        ensures same { tree_in self.new ≡ tree_in self.old }
+        ensures dfa { StaysConsistent self.old self.new }
         ensures work { CountsAtMost (byte_work (tree_in self.old) - 1) steps.old steps.new }
         ensures known { next_number (table_in self.old) from byte ≢ count_in self.old → (self.new ≡ self.old)
             × (result ≡ next_number (table_in self.old) from byte) × (steps.new.count ≡ steps.old.count + 1) }
@@ -203,13 +185,11 @@ impl<'a> LazyDfa<'a> {
         }
     }
 
-    /// Whether the line has a match. If the scan reaches a newline within the line, the whole line
-    /// is simulated.
+    /// Whether the line has a match. A line with a newline within it is simulated.
     pub(crate) fn is_match(&mut self, line: &[u8], steps: &mut Steps) -> bool
         requires right { IsConsistent self.old }
         ensures found { IsTrue result ↔ HasMatch (tree_in self.old) line.now }
-        ensures right { IsConsistent self.new }
-        ensures same { tree_in self.new ≡ tree_in self.old }
+        ensures dfa { StaysConsistent self.old self.new }
         ensures work { CountsAtMost (line_work (tree_in self.old) (length line.now)) steps.old steps.new }
     {
         let mut number = self.start();
@@ -259,8 +239,7 @@ impl<'a> LazyDfa<'a> {
     }
 
     /// Moves on by known transitions and, unless the text ends there, over the byte whose
-    /// transition is special or unknown. If it leads to the match state or the dead one, moves over
-    /// the rest of the line too.
+    /// transition is special or unknown, or over the rest of the line that it decides.
     #[inline(always)]
     fn advance(&mut self, text: &[u8], scan: Scan, steps: &mut Steps) -> Scan
         requires right { IsConsistent self.old }
@@ -269,8 +248,7 @@ impl<'a> LazyDfa<'a> {
         requires scanned { HasScanned self.old text.now scan }
         ensures lists { ListsLine (tree_in self.old) text.now scan result }
         ensures scanned { HasScanned self.new text.now result }
-        ensures right { IsConsistent self.new }
-        ensures same { tree_in self.new ≡ tree_in self.old }
+        ensures dfa { StaysConsistent self.old self.new }
         ensures work { CountsAtMost (byte_work (tree_in self.old) * (result.to - scan.to))
             steps.old steps.new }
         ensures known { IsKnown self.old scan.number (drop scan.to text.now) →
@@ -353,19 +331,16 @@ impl<'a> LazyDfa<'a> {
         ensures leads { LeadsIn self.new (state_in self.old slot) byte result }
         ensures stored { length self.old.states.cached.items < self.old.states.cached.most →
             next_number (table_in self.new) (slot * count_in self.old) byte ≡ result }
-        ensures right { IsConsistent self.new }
-        ensures same { tree_in self.new ≡ tree_in self.old }
+        ensures dfa { StaysConsistent self.old self.new }
         ensures work { CountsAtMost (byte_work (tree_in self.old) - 2) steps.old steps.new }
     {
         steps.add(self.states.scratch.positions.len().div_ceil(64));
         self.states.cached.load(slot, &mut self.states.scratch);
-        if step_over(
-            self.program,
-            &mut self.states.scratch,
-            &mut self.states.memory,
-            byte,
-            steps,
-        ) {
+        if self
+            .states
+            .scratch
+            .step_over(self.program, &mut self.states.memory, byte, steps)
+        {
             let next = self.accepted(byte);
             self.put(slot, byte, next);
             return next;
@@ -378,9 +353,8 @@ impl<'a> LazyDfa<'a> {
         self.next_number(slot, byte, steps)
     }
 
-    /// The number of the state under construction, which is cached if it is new. It is the
-    /// successor of the state in the slot over a byte of the line, and that state does not accept
-    /// before the byte.
+    /// The number of the state under construction, which is cached if it is new: the successor of
+    /// the state in the slot, which does not accept before the byte.
     fn next_number(&mut self, slot: usize, byte: u8, steps: &mut Steps) -> u16
         requires right { IsConsistent self.old }
         requires slot { HasSlot self.old slot }
@@ -391,8 +365,7 @@ impl<'a> LazyDfa<'a> {
         ensures leads { LeadsIn self.new (state_in self.old slot) byte result }
         ensures stored { length self.old.states.cached.items < self.old.states.cached.most →
             next_number (table_in self.new) (slot * count_in self.old) byte ≡ result }
-        ensures right { IsConsistent self.new }
-        ensures same { tree_in self.new ≡ tree_in self.old }
+        ensures dfa { StaysConsistent self.old self.new }
         ensures work { CountsAtMost (11 * words (position_count (tree_in self.old)) + 10 + 6 * 256)
             steps.old steps.new }
     {
@@ -440,8 +413,7 @@ impl<'a> LazyDfa<'a> {
         requires leads { LeadsIn self.old (state_in self.old slot) byte next }
         ensures leads { LeadsIn self.new (state_in self.old slot) byte next }
         ensures stored { next_number (table_in self.new) (slot * count_in self.old) byte ≡ next }
-        ensures right { IsConsistent self.new }
-        ensures same { tree_in self.new ≡ tree_in self.old }
+        ensures dfa { StaysConsistent self.old self.new }
     {
         let class = self.states.classes.of[byte as usize] as usize;
         let transition = slot * self.states.classes.count as usize + class;
@@ -458,8 +430,7 @@ impl<'a> LazyDfa<'a> {
         ensures count { count_in self.new ≡ count_in self.old }
         ensures kept { (slot : ℕ) → HasSlot self.old slot
             → HasSlot self.new slot × (state_in self.new slot ≡ state_in self.old slot) }
-        ensures right { IsConsistent self.new }
-        ensures same { tree_in self.new ≡ tree_in self.old }
+        ensures dfa { StaysConsistent self.old self.new }
     {
         let count = self.states.classes.count;
         let slot = self.states.cached.len();
@@ -474,26 +445,15 @@ impl<'a> LazyDfa<'a> {
         requires right { IsConsistent self.old }
         ensures room { length self.new.states.cached.items < self.new.states.cached.most }
         ensures scratch { self.new.states.scratch ≡ self.old.states.scratch }
-        ensures right { IsConsistent self.new }
-        ensures same { tree_in self.new ≡ tree_in self.old }
+        ensures dfa { StaysConsistent self.old self.new }
     {
         self.states.cached.truncate(FIRST);
         write_first(&mut self.states.transitions, &self.states.classes);
     }
-}
 
-impl<'a> OneLane for LazyDfa<'a> {
-    ghost use Rattle.cs_match.specs.ConsistentDfa.{IsConsistent, IsKnown, tree_in, count_in};
-    ghost use Rattle.cs_match.specs.LazyDfa.{start_number};
-
-    ghost tree = { λ dfa. tree_in dfa };
-
-    ghost is_right = { IsConsistent };
-
-    ghost is_known = { λ dfa lines. IsKnown dfa (start_number (count_in dfa)) lines };
-
+    /// The table, as far as it is filled.
     #[inline(always)]
-    fn table(&self) -> Table<'_>
+    pub(crate) fn table(&self) -> Table<'_>
         requires { IsConsistent self.now }
         ensures rows { HasRows result }
         ensures tells { (has_match : List ℕ → Bool) → Decides has_match (tree_in self.now) →
@@ -509,13 +469,31 @@ impl<'a> OneLane for LazyDfa<'a> {
         }
     }
 
-    fn list_ends(
+    /// Lists the ends of the matching lines between two offsets, until the list is full.
+    pub(crate) fn list_ends(
         &mut self,
         block: &[u8],
         part: Range<usize>,
         ends: &mut [usize],
         steps: &mut Steps,
-    ) -> ListedLines {
+    ) -> ListedLines
+        requires right { IsConsistent self.old }
+        requires lines { AreLinesBetween block.now part.start part.end }
+        requires room { 0 < length ends.old }
+        ensures listed { AreListed (λ has_match. Decides has_match (tree_in self.old))
+            block.now part.start result.to result.count ends.new }
+        ensures most { result.to ≤ part.end }
+        ensures all { result.to ≢ part.end → result.count ≡ length ends.old }
+        ensures stops { result.count ≡ length ends.old →
+            result.to ≡ slice_index ends.new (result.count - 1) + 1 }
+        ensures moves { part.start < part.end → part.start < result.to }
+        ensures dfa { StaysConsistent self.old self.new }
+        ensures work { CountsAtMost (byte_work (tree_in self.old) * (result.to - part.start))
+            steps.old steps.new }
+        ensures known { IsKnown self.old (start_number (count_in self.old))
+            (slice_range block.now part.start part.end) →
+            steps.new.count ≡ steps.old.count + (result.to - part.start) }
+    {
         let text = &block[..part.end];
         let mut scan = Scan {
             from: part.start,

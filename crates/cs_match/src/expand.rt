@@ -8,8 +8,7 @@ ghost use Rattle.cs_match.specs.Expansion.{expansion, expansions, with_copies, o
 use cs_syntax::{ByteSet, Node};
 use std::alloc::{AllocError, Global};
 
-/// The expansion of the tree: counted repeats become copies, and an alternation of sets of bytes
-/// becomes one set.
+/// The expansion of the tree: repeats become copies, and alternations of sets of bytes one set.
 #[cycle(expand)]
 pub(crate) fn expand(alloc: Global, node: &Node) -> Result<Node, AllocError>
     ensures { IfOk result (λ n. tree_of n ≡ expansion (tree_of node.now)) }
@@ -45,8 +44,7 @@ fn expand_repeat(
     least: u32,
     most: Option<u32>,
 ) -> Result<Node, AllocError>
-    ensures { IfOk result
-        (λ n. tree_of n ≡ repeat_expansion (expansion (tree_of node.now)) least most) }
+    ensures { IfOk result (λ n. tree_of n ≡ repeat_expansion (expansion (tree_of node.now)) least most) }
 {
     let mut parts = Vec::new(alloc);
     match most {

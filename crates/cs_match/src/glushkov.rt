@@ -2,7 +2,7 @@
 // each visits a part once: the first, bottom-up, computes for each repeat whether its body is
 // final; the second, top-down, finds which positions are entered. Then all positions are moved over
 // the byte at once. Cursors count the positions and repeats that were visited.
-ghost use Rattle.std.specs.Prelude.{◌≡◌, ℕ, ◌+◌, ◌*◌, ◌<◌, ◌≤◌, ◌^◌, ◌%◌, ◌==◌, ◌&&◌, ◌||◌, IfOk, length, take, drop, min, true, false, ◌++◌, slice_set};
+ghost use Rattle.std.specs.Prelude.{◌≡◌, ℕ, ◌+◌, ◌*◌, ◌<◌, ◌≤◌, ◌^◌, ◌%◌, ◌==◌, ◌&&◌, ◌||◌, IfOk, length, take, drop, true, false, ◌++◌};
 ghost use Rattle.std.specs.Int.{bit_at};
 ghost use Rattle.cs_syntax.specs.Node.{tree_of};
 ghost use Rattle.cs_syntax.specs.NodeList.{trees_of};
@@ -17,10 +17,10 @@ ghost use Rattle.cs_match.specs.Masks.{IsScratch};
 ghost use Rattle.cs_match.specs.declared.look_around.LookAround.{LookAround};
 ghost use Rattle.cs_prefilter.specs.CountsAtMost.{CountsAtMost};
 
-use crate::input::Input;
 use crate::look_around::LookAround;
 use crate::masks::Masks;
-use crate::parts::Part;
+use crate::parts::Fragment;
+use crate::position::Input;
 use crate::position_set::PositionSet;
 use crate::program::Program;
 use crate::sequences::Sequences;
@@ -88,8 +88,7 @@ impl Ends {
 
     /// The ends of a concatenation.
     fn then(self, next: Ends) -> Ends
-        ensures accepting { result.accepting
-            ≡ (next.accepting || (self.accepting && next.nullable)) }
+        ensures accepting { result.accepting ≡ (next.accepting || (self.accepting && next.nullable)) }
         ensures nullable { result.nullable ≡ (self.nullable && next.nullable) }
     {
         Ends {
@@ -134,8 +133,7 @@ impl Scratch {
     }
 }
 
-/// What holds at an offset: the position set, for each repeat whether its body is final, and the
-/// look-around.
+/// What holds at an offset: the set, for each repeat whether its body is final, the look-around.
 #[derive(Clone, Copy)]
 struct Configuration<'a> {
     positions: &'a PositionSet,
@@ -150,31 +148,7 @@ pub(crate) struct Offset {
     pub(crate) here: LookAround,
 }
 
-/// Whether the position set accepts at the offset.
-pub(crate) fn is_accepting(
-    program: &Program,
-    at: Offset,
-    positions: &PositionSet,
-    steps: &mut Steps,
-) -> bool
-    requires { length positions.now ≡ position_count program.now }
-    ensures accepting { result ≡ accepts program.now at.may_begin positions.now at.here }
-    ensures cost { CountsAtMost (nodes program.now) steps.old steps.new }
-{
-    let mut cursor = START;
-    let ends = find_ends(
-        program.part(),
-        positions,
-        &mut [],
-        at.here,
-        &mut cursor,
-        steps,
-    );
-    ends.accepting || at.may_begin && ends.nullable
-}
-
-/// Moves the position set over the byte at the offset, and returns whether it accepts before the
-/// byte.
+/// Moves the position set over the byte at the offset, and returns whether it accepts before it.
 pub(crate) fn step_over(
     program: &Program,
     at: Offset,
@@ -194,12 +168,19 @@ pub(crate) fn step_over(
     let slot = scratch
         .masks
         .find(program.positions(), program.byte_classes(), input, steps);
-    scratch.masks.slots[slot].move_over(&scratch.entries, positions, steps);
+    let mask = &scratch.masks.slots[slot];
+    positions.move_over(
+        &scratch.entries,
+        &mask.entered,
+        &mask.previous,
+        &mask.kept,
+        steps,
+    );
     accepting
 }
 
 /// Finds which positions are entered, and returns whether the position set accepts.
-fn enter(
+pub(crate) fn enter(
     program: &Program,
     at: Offset,
     positions: &PositionSet,
@@ -236,7 +217,7 @@ fn enter(
 
 /// Stores for each repeat whether its body is final here.
 fn note_loops(
-    root: &Part,
+    root: &Fragment,
     positions: &PositionSet,
     loops: &mut [bool],
     here: LookAround,
@@ -253,11 +234,10 @@ fn note_loops(
     }
 }
 
-/// The ends of the tree at the current offset. For each repeat it also stores whether the body is
-/// final, as far as `loops` has entries.
+/// The ends of the tree at the current offset. Stores for each repeat whether its body is final.
 #[cycle(find_ends)]
 fn find_ends(
-    part: &Part,
+    part: &Fragment,
     positions: &PositionSet,
     loops: &mut [bool],
     here: LookAround,
@@ -265,34 +245,35 @@ fn find_ends(
     steps: &mut Steps,
 ) -> Ends
     requires room { position_past (shape_of part.now) cursor.old ≤ length positions.now }
-    requires within { cursor.old.repeat ≤ length loops.old }
+    requires within { repeat_past (shape_of part.now) cursor.old ≤ length loops.old }
     ensures accepting { result.accepting ≡ final_from (shape_of part.now) cursor.old positions.now here }
     ensures nullable { result.nullable ≡ nullable (shape_of part.now) here }
     ensures noted { loops.new ≡ loops_after (shape_of part.now) cursor.old positions.now here loops.old }
     ensures position { cursor.new.position ≡ position_past (shape_of part.now) cursor.old }
-    ensures repeat { cursor.new.repeat ≡ min (length loops.old) (repeat_past (shape_of part.now) cursor.old) }
+    ensures repeat { cursor.new.repeat ≡ repeat_past (shape_of part.now) cursor.old }
     ensures cost { steps.new.count ≡ steps.old.count + size_of part.now }
 {
     steps.add(1);
     match part {
-        Part::Run(n) => end_run(*n, positions, cursor),
-        Part::Alternation(sequences) => end_sequences(sequences, positions, cursor, steps),
-        Part::Options(n, count) => {
+        Fragment::Run(n) => end_run(*n, positions, cursor),
+        Fragment::Alternation(sequences) => end_sequences(sequences, positions, cursor, steps),
+        Fragment::Options(n, count) => {
             steps.add(*count);
             end_options(*n, *count, positions, cursor)
         }
-        Part::Cat(parts) => find_ends_all(parts, positions, loops, here, cursor, steps),
-        Part::Alt(parts) => find_ends_some(parts, positions, loops, here, cursor, steps),
-        Part::Rep(x, least) => {
-            let own = next_repeat(loops.len(), cursor);
+        Fragment::Cat(parts) => find_ends_all(parts, positions, loops, here, cursor, steps),
+        Fragment::Alt(parts) => find_ends_some(parts, positions, loops, here, cursor, steps),
+        Fragment::Rep(x, least) => {
+            let own = cursor.repeat;
+            cursor.repeat += 1;
             let ends = find_ends(x, positions, loops, here, cursor, steps);
-            note_loop(loops, own, ends.accepting);
+            loops[own] = ends.accepting;
             Ends::within(*least == 0).or(ends)
         }
-        Part::LineStart => Ends::within(here.first),
-        Part::LineEnd => Ends::within(here.last),
-        Part::WordEdge => Ends::within(here.edge),
-        Part::NotWordEdge => Ends::within(!here.edge),
+        Fragment::LineStart => Ends::within(here.first),
+        Fragment::LineEnd => Ends::within(here.last),
+        Fragment::WordEdge => Ends::within(here.edge),
+        Fragment::NotWordEdge => Ends::within(!here.edge),
     }
 }
 
@@ -401,8 +382,7 @@ fn enter_options(
     accepting
 }
 
-/// The same by words of 64 positions. Each option may be nothing, so all those after one that ends
-/// are entered.
+/// The same by words of 64 positions. All options after one that ends are entered.
 fn enter_many(
     n: usize,
     count: usize,
@@ -411,9 +391,7 @@ fn enter_many(
     entries: &mut PositionSet,
     cursor: &mut Cursor,
 ) -> bool
-    requires some { 0 < n }
-    requires short { n ≤ 2 }
-    requires many { 0 < count }
+    requires many { (0 < n) × (n ≤ 2) × (0 < count) }
     requires room { cursor.old.position + position_count (options n count) ≤ length positions.now }
     requires shifted { AreShifted cursor.old.position positions.now entries.old }
     ensures accepting { (here : LookAround) →
@@ -423,8 +401,7 @@ fn enter_many(
     ensures position { cursor.new.position ≡ cursor.old.position + position_count (options n count) }
     ensures repeat { cursor.new.repeat ≡ cursor.old.repeat }
 {
-    // The row is within the entries, which have one position more, so neither its end nor the next
-    // offset overflows.
+    // The row is within the entries, so neither its end nor the next offset overflows.
     prove!(cursor.position < entries.len());
     let from = cursor.position;
     let end = from + count * n;
@@ -436,20 +413,16 @@ fn enter_many(
     enter | (last < end)
 }
 
-/// Whether options are entered by words: they have one or two positions, and are so many that this
-/// is faster.
+/// Whether options are entered by words: they are short, and so many that this is faster.
 fn are_many(n: usize, count: usize) -> bool
-    ensures some { result ≡ true → 0 < n }
-    ensures short { result ≡ true → n ≤ 2 }
-    ensures many { result ≡ true → 0 < count }
+    ensures { result ≡ true → (0 < n) × (n ≤ 2) × (0 < count) }
 {
     n > 0 && n <= 2 && count > 3
 }
 
 /// The bits in each word of every nth position, position `at` included.
 fn option_bits(n: usize, at: usize) -> u64
-    requires some { 0 < n }
-    requires short { n ≤ 2 }
+    requires { (0 < n) × (n ≤ 2) }
     ensures { (k : ℕ) → (bit_at result (k % 64) == 1) ≡ ((at + k) % n == 0) }
 {
     if n == 1 {
@@ -498,9 +471,8 @@ fn enter_sequences(
     requires shifted { AreShifted cursor.old.position positions.now entries.old }
     ensures accepting { (here : LookAround) →
         result ≡ accepted_from (alt (runs sequences.now)) enter cursor.old positions.now here }
-    ensures entries { (here : LookAround) →
-        entries.new ≡ entries_after (alt (runs sequences.now)) enter cursor.old positions.now here
-        entries.old }
+    ensures entries { (here : LookAround) → entries.new ≡ entries_after (alt (runs sequences.now)) enter
+        cursor.old positions.now here entries.old }
     ensures position { cursor.new.position ≡ position_past (alt (runs sequences.now)) cursor.old }
     ensures repeat { cursor.new.repeat ≡ cursor.old.repeat }
     ensures cost { steps.new.count ≡ steps.old.count + words (position_count_of (runs sequences.now)) }
@@ -514,33 +486,9 @@ fn enter_sequences(
     positions.meets(from, sequences.lasts())
 }
 
-/// Moves the cursor over a repeat, and returns its index. Repeats past the end of `loops` share one
-/// index.
-fn next_repeat(most: usize, cursor: &mut Cursor) -> usize
-    requires { cursor.old.repeat ≤ most }
-    ensures is { result ≡ cursor.old.repeat }
-    ensures position { cursor.new.position ≡ cursor.old.position }
-    ensures repeat { cursor.new.repeat ≡ min most (cursor.old.repeat + 1) }
-{
-    let own = cursor.repeat;
-    if own < most {
-        cursor.repeat = own + 1;
-    }
-    own
-}
-
-/// Stores whether the body of a repeat is final, if the repeat has an entry.
-fn note_loop(loops: &mut [bool], index: usize, accepting: bool)
-    ensures { loops.new ≡ slice_set loops.old index accepting }
-{
-    if index < loops.len() {
-        loops[index] = accepting;
-    }
-}
-
 #[cycle(find_ends)]
 fn find_ends_all(
-    parts: &[Part],
+    parts: &[Fragment],
     positions: &PositionSet,
     loops: &mut [bool],
     here: LookAround,
@@ -548,12 +496,12 @@ fn find_ends_all(
     steps: &mut Steps,
 ) -> Ends
     requires room { position_past (all_of parts.now) cursor.old ≤ length positions.now }
-    requires within { cursor.old.repeat ≤ length loops.old }
+    requires within { repeat_past (all_of parts.now) cursor.old ≤ length loops.old }
     ensures accepting { result.accepting ≡ final_from (all_of parts.now) cursor.old positions.now here }
     ensures nullable { result.nullable ≡ nullable (all_of parts.now) here }
     ensures noted { loops.new ≡ loops_after (all_of parts.now) cursor.old positions.now here loops.old }
     ensures position { cursor.new.position ≡ position_past (all_of parts.now) cursor.old }
-    ensures repeat { cursor.new.repeat ≡ min (length loops.old) (repeat_past (all_of parts.now) cursor.old) }
+    ensures repeat { cursor.new.repeat ≡ repeat_past (all_of parts.now) cursor.old }
     ensures cost { steps.new.count ≡ steps.old.count + sizes_of parts.now }
 {
     let mut all = Ends::within(true);
@@ -566,7 +514,7 @@ fn find_ends_all(
 
 #[cycle(find_ends)]
 fn find_ends_some(
-    parts: &[Part],
+    parts: &[Fragment],
     positions: &PositionSet,
     loops: &mut [bool],
     here: LookAround,
@@ -574,12 +522,12 @@ fn find_ends_some(
     steps: &mut Steps,
 ) -> Ends
     requires room { position_past (any_of parts.now) cursor.old ≤ length positions.now }
-    requires within { cursor.old.repeat ≤ length loops.old }
+    requires within { repeat_past (any_of parts.now) cursor.old ≤ length loops.old }
     ensures accepting { result.accepting ≡ final_from (any_of parts.now) cursor.old positions.now here }
     ensures nullable { result.nullable ≡ nullable (any_of parts.now) here }
     ensures noted { loops.new ≡ loops_after (any_of parts.now) cursor.old positions.now here loops.old }
     ensures position { cursor.new.position ≡ position_past (any_of parts.now) cursor.old }
-    ensures repeat { cursor.new.repeat ≡ min (length loops.old) (repeat_past (any_of parts.now) cursor.old) }
+    ensures repeat { cursor.new.repeat ≡ repeat_past (any_of parts.now) cursor.old }
     ensures cost { steps.new.count ≡ steps.old.count + sizes_of parts.now }
 {
     let mut some = Ends::within(false);
@@ -595,7 +543,7 @@ fn find_ends_some(
 #[cycle(advance)]
 #[tactic(auto, using(crate::proofs::PartLemmas::part_rules))]
 fn advance(
-    part: &Part,
+    part: &Fragment,
     enter: bool,
     at: &Configuration<'_>,
     entries: &mut PositionSet,
@@ -613,33 +561,33 @@ fn advance(
 {
     steps.add(1);
     match part {
-        Part::Run(n) => enter_run(*n, enter, at.positions, entries, cursor),
-        Part::Alternation(sequences) => {
+        Fragment::Run(n) => enter_run(*n, enter, at.positions, entries, cursor),
+        Fragment::Alternation(sequences) => {
             enter_sequences(sequences, enter, at.positions, entries, cursor, steps)
         }
-        Part::Options(n, count) => {
+        Fragment::Options(n, count) => {
             steps.add(*count);
             enter_options(*n, *count, enter, at.positions, entries, cursor)
         }
-        Part::Cat(parts) => advance_all(parts, enter, at, entries, cursor, steps),
-        Part::Alt(parts) => advance_each(parts, enter, at, entries, cursor, steps),
-        Part::Rep(x, least) => {
+        Fragment::Cat(parts) => advance_all(parts, enter, at, entries, cursor, steps),
+        Fragment::Alt(parts) => advance_each(parts, enter, at, entries, cursor, steps),
+        Fragment::Rep(x, least) => {
             let again = at.loops[cursor.repeat];
             cursor.repeat += 1;
             let accepting = advance(x, enter || again, at, entries, cursor, steps);
             accepting || (*least == 0 && enter)
         }
         // The operator `&` makes no branch. Each branch would have all clauses to prove.
-        Part::LineStart => enter & at.here.first,
-        Part::LineEnd => enter & at.here.last,
-        Part::WordEdge => enter & at.here.edge,
-        Part::NotWordEdge => enter & !at.here.edge,
+        Fragment::LineStart => enter & at.here.first,
+        Fragment::LineEnd => enter & at.here.last,
+        Fragment::WordEdge => enter & at.here.edge,
+        Fragment::NotWordEdge => enter & !at.here.edge,
     }
 }
 
 #[cycle(advance)]
 fn advance_all(
-    parts: &[Part],
+    parts: &[Fragment],
     enter: bool,
     at: &Configuration<'_>,
     entries: &mut PositionSet,
@@ -664,7 +612,7 @@ fn advance_all(
 
 #[cycle(advance)]
 fn advance_each(
-    parts: &[Part],
+    parts: &[Fragment],
     enter: bool,
     at: &Configuration<'_>,
     entries: &mut PositionSet,

@@ -19,8 +19,7 @@ pub fn matching_is_decidable()
 pub fn lines_are_parts()
     ensures cut { (part more : List ℕ) → HasNoNewline part →
         lines (part ++ newline ∷ more) ≡ part ∷ lines more }
-    ensures last { (b : ℕ) (part : List ℕ) → HasNoNewline (b ∷ part) →
-        lines (b ∷ part) ≡ (b ∷ part) ∷ [] }
+    ensures last { (b : ℕ) (part : List ℕ) → HasNoNewline (b ∷ part) → lines (b ∷ part) ≡ (b ∷ part) ∷ [] }
     ensures none { lines [] ≡ [] }
 {}
 

@@ -1,5 +1,6 @@
 // Lists of the matching lines of a block. The search of a block is a loop over such lists.
 ghost use Rattle.std.specs.Prelude.{◌≡◌, ◌≤◌, ◌<◌, ◌+◌, ◌-◌, ◌*◌, IfSome, length, drop};
+ghost use Rattle.cs_match.specs.ConsistentDfa.{IsConsistent, StaysConsistent, tree_in};
 ghost use Rattle.cs_match.specs.Skipping.{AreWholeLines, IsLineAfter};
 ghost use Rattle.cs_match.specs.Listing.{IsListedTo, ListsLines};
 ghost use Rattle.cs_match.specs.Table.{HasRows};
@@ -8,12 +9,11 @@ ghost use Rattle.cs_prefilter.specs.WordAt.{IsPrefilterOf};
 ghost use Rattle.cs_prefilter.specs.CountsAtMost.{CountsAtMost};
 
 use crate::chunks::list_chunks;
-use crate::lines::line_end;
+use crate::dfa::{LazyDfa, ListedLines};
 use crate::matcher::Line;
-use crate::one_lane::{ListedLines, OneLane};
 use crate::pacing::Pacing;
 use crate::program::Program;
-use crate::skipping::{next_candidate, whole_lines_len};
+use crate::skipping::{line_end, next_candidate, whole_lines_len};
 use crate::table::Table;
 use cs_prefilter::{Listed, Prefilter, Steps};
 
@@ -23,66 +23,30 @@ const SHORT: usize = 256;
 /// The length of a sample.
 const SAMPLE: usize = 1024;
 
-/// The ways to search for the matching lines of a program, and the counters that choose between
-/// them.
-#[derive(Drop)]
-pub(crate) struct Ways<'a> {
-    /// The prefilter of the program, if it has one.
-    pub(crate) prefilter: Option<&'a Prefilter>,
-    pub(crate) pacing: Pacing,
-}
-
-impl<'a> Ways<'a> {
-    /// The ways for a program.
-    pub(crate) fn new(program: &'a Program, pacing: Pacing) -> Ways<'a>
-        ensures { IfSome result.prefilter (λ prefilter. IsPrefilterOf program.now prefilter.now) }
-    {
-        Ways {
-            prefilter: program.prefilter(),
-            pacing,
-        }
-    }
-
-    /// The prefilter, if it is used for the next part.
-    fn next_prefilter(&mut self) -> Option<&'a Prefilter>
-        ensures is { IfSome result (λ prefilter. self.old.prefilter ≡ Some prefilter) }
-        ensures same { self.new.prefilter ≡ self.old.prefilter }
-    {
-        if self.pacing.uses_prefilter() {
-            self.prefilter
-        } else {
-            None
-        }
-    }
-}
-
 /// Lists the ends of the matching lines from an offset on: part by part, up to the end of the block
 /// or until the list may have no room for another part.
-pub(crate) fn list_lines<D: OneLane>(
-    dfa: &mut D,
-    ways: &mut Ways<'_>,
+pub(crate) fn list_lines(
+    dfa: &mut LazyDfa<'_>,
+    pacing: &mut Pacing,
     block: &[u8],
     from: usize,
     ends: &mut [usize],
     steps: &mut Steps,
 ) -> ListedLines
-    requires right { D.is_right dfa.old }
-    requires prefilter { IfSome ways.old.prefilter (λ prefilter.
-        IsPrefilterOf (D.tree dfa.old) prefilter.now) }
+    requires right { IsConsistent dfa.old }
     requires within { from ≤ length block.now }
     requires whole { AreWholeLines (drop from block.now) }
     requires room { 0 < length ends.old }
-    ensures lists { ListsLines (D.tree dfa.old) block.now from result ends.new }
+    ensures lists { ListsLines (tree_in dfa.old) block.now from result ends.new }
     ensures all { result.count ≡ 0 → result.to ≡ length block.now }
-    ensures dfa { D.is_right dfa.new × (D.tree dfa.new ≡ D.tree dfa.old) }
-    ensures same { ways.new.prefilter ≡ ways.old.prefilter }
-    ensures work { CountsAtMost (list_work (D.tree dfa.old) (result.to - from)) steps.old steps.new }
+    ensures dfa { StaysConsistent dfa.old dfa.new }
+    ensures work { CountsAtMost (list_work (tree_in dfa.old) (result.to - from)) steps.old steps.new }
 {
     let room = (ends.len() / 2).max(1);
     let mut to = from;
     let mut count = 0;
     'parts: while to < block.len() && count < room {
-        let part = list_part(dfa, ways, block, to, &mut ends[count..], steps);
+        let part = list_part(dfa, pacing, block, to, &mut ends[count..], steps);
         to = part.to;
         count += part.count;
     }
@@ -91,31 +55,28 @@ pub(crate) fn list_lines<D: OneLane>(
 
 /// Lists those of the next part: the lines with a word of an exact prefilter, those up to a
 /// candidate of another one, or what is scanned at once.
-fn list_part<D: OneLane>(
-    dfa: &mut D,
-    ways: &mut Ways<'_>,
+fn list_part(
+    dfa: &mut LazyDfa<'_>,
+    pacing: &mut Pacing,
     block: &[u8],
     from: usize,
     ends: &mut [usize],
     steps: &mut Steps,
 ) -> ListedLines
-    requires right { D.is_right dfa.old }
-    requires prefilter { IfSome ways.old.prefilter (λ prefilter.
-        IsPrefilterOf (D.tree dfa.old) prefilter.now) }
+    requires right { IsConsistent dfa.old }
     requires within { from < length block.now }
     requires whole { AreWholeLines (drop from block.now) }
     requires room { 0 < length ends.old }
-    ensures lists { ListsLines (D.tree dfa.old) block.now from result ends.new }
-    ensures dfa { D.is_right dfa.new × (D.tree dfa.new ≡ D.tree dfa.old) }
-    ensures same { ways.new.prefilter ≡ ways.old.prefilter }
-    ensures work { CountsAtMost (list_work (D.tree dfa.old) (result.to - from)) steps.old steps.new }
+    ensures lists { ListsLines (tree_in dfa.old) block.now from result ends.new }
+    ensures dfa { StaysConsistent dfa.old dfa.new }
+    ensures work { CountsAtMost (list_work (tree_in dfa.old) (result.to - from)) steps.old steps.new }
 {
-    let Some(prefilter) = ways.next_prefilter() else {
-        return scan_part(dfa, &mut ways.pacing, block, from, ends, steps);
+    let Some(prefilter) = next_prefilter(dfa.program, pacing) else {
+        return scan_part(dfa, pacing, block, from, ends, steps);
     };
     if prefilter.is_exact() {
         let listed = prefilter.list(block, from, ends, steps);
-        ways.pacing.note_list(from, listed);
+        pacing.note_list(from, listed);
         return finish_list(dfa, block, from, listed, ends, steps);
     }
     let candidate = next_candidate(prefilter, block, from, steps);
@@ -126,28 +87,38 @@ fn list_part<D: OneLane>(
             to: block.len(),
         },
     };
-    ways.pacing.note_candidate(from, candidate, listed);
+    pacing.note_candidate(from, candidate, listed);
     listed
 }
 
-/// Completes a list of lines by their words, which may be given up within a line: that line is
-/// scanned.
-fn finish_list<D: OneLane>(
-    dfa: &mut D,
+/// The prefilter of the program, if it is used for the next part.
+fn next_prefilter<'a>(program: &'a Program, pacing: &mut Pacing) -> Option<&'a Prefilter>
+    ensures { IfSome result (λ prefilter. IsPrefilterOf program.now prefilter.now) }
+{
+    if pacing.prefilter.is_over() {
+        program.prefilter()
+    } else {
+        None
+    }
+}
+
+/// Completes a list of lines by their words. If it was given up within a line, the line is scanned.
+fn finish_list(
+    dfa: &mut LazyDfa<'_>,
     block: &[u8],
     from: usize,
     words: Listed,
     ends: &mut [usize],
     steps: &mut Steps,
 ) -> ListedLines
-    requires right { D.is_right dfa.old }
+    requires right { IsConsistent dfa.old }
     requires whole { AreWholeLines (drop from block.now) }
-    requires listed { IsListedTo (D.tree dfa.old) block.now from words ends.old }
+    requires listed { IsListedTo (tree_in dfa.old) block.now from words ends.old }
     requires room { 0 < length ends.old }
-    ensures lists { ListsLines (D.tree dfa.old) block.now from result ends.new }
+    ensures lists { ListsLines (tree_in dfa.old) block.now from result ends.new }
     ensures all { words.to ≤ result.to }
-    ensures dfa { D.is_right dfa.new × (D.tree dfa.new ≡ D.tree dfa.old) }
-    ensures work { CountsAtMost ((byte_work (D.tree dfa.old) + 2) * (result.to - from)) steps.old steps.new }
+    ensures dfa { StaysConsistent dfa.old dfa.new }
+    ensures work { CountsAtMost ((byte_work (tree_in dfa.old) + 2) * (result.to - from)) steps.old steps.new }
 {
     let start = from + whole_lines_len(&block[from..words.to]);
     // The bytes of the line before the offset are read, and the newline before them.
@@ -170,20 +141,20 @@ fn finish_list<D: OneLane>(
 }
 
 /// Lists the end of a line, if it matches.
-fn list_line<D: OneLane>(
-    dfa: &mut D,
+fn list_line(
+    dfa: &mut LazyDfa<'_>,
     block: &[u8],
     line: Line,
     ends: &mut [usize],
     steps: &mut Steps,
 ) -> ListedLines
-    requires right { D.is_right dfa.old }
+    requires right { IsConsistent dfa.old }
     requires line { IsLineAfter block.now line.start line.start line.end }
     requires room { 0 < length ends.old }
-    ensures lists { ListsLines (D.tree dfa.old) block.now line.start result ends.new }
+    ensures lists { ListsLines (tree_in dfa.old) block.now line.start result ends.new }
     ensures all { result.to ≡ line.end + 1 }
-    ensures dfa { D.is_right dfa.new × (D.tree dfa.new ≡ D.tree dfa.old) }
-    ensures work { CountsAtMost (byte_work (D.tree dfa.old) * (line.end + 1 - line.start))
+    ensures dfa { StaysConsistent dfa.old dfa.new }
+    ensures work { CountsAtMost (byte_work (tree_in dfa.old) * (line.end + 1 - line.start))
         steps.old steps.new }
 {
     dfa.list_ends(block, line.start..line.end + 1, ends, steps)
@@ -192,21 +163,21 @@ fn list_line<D: OneLane>(
 /// Lists those of the next lines without a prefilter: of four chunks by four lanes, or of the rest
 /// of the block by one. It is a function of its own, so that the loop over parts has registers.
 #[inline(never)]
-fn scan_part<D: OneLane>(
-    dfa: &mut D,
+fn scan_part(
+    dfa: &mut LazyDfa<'_>,
     pacing: &mut Pacing,
     block: &[u8],
     from: usize,
     ends: &mut [usize],
     steps: &mut Steps,
 ) -> ListedLines
-    requires right { D.is_right dfa.old }
+    requires right { IsConsistent dfa.old }
     requires within { from ≤ length block.now }
     requires whole { AreWholeLines (drop from block.now) }
     requires room { 0 < length ends.old }
-    ensures lists { ListsLines (D.tree dfa.old) block.now from result ends.new }
-    ensures dfa { D.is_right dfa.new × (D.tree dfa.new ≡ D.tree dfa.old) }
-    ensures work { CountsAtMost (1024 + (byte_work (D.tree dfa.old) + 3) * (result.to - from))
+    ensures lists { ListsLines (tree_in dfa.old) block.now from result ends.new }
+    ensures dfa { StaysConsistent dfa.old dfa.new }
+    ensures work { CountsAtMost (1024 + (byte_work (tree_in dfa.old) + 3) * (result.to - from))
         steps.old steps.new }
 {
     if ends.len() >= SHORT && !uses_one_lane(dfa.table(), pacing, &block[from..], steps) {
@@ -220,7 +191,7 @@ fn uses_one_lane(table: Table<'_>, pacing: &mut Pacing, text: &[u8], steps: &mut
     requires { HasRows table }
     ensures work { CountsAtMost 1024 steps.old steps.new }
 {
-    if pacing.asks_for_sample() {
+    if pacing.sampling.is_over() {
         let sample = &text[..text.len().min(SAMPLE)];
         steps.add(sample.len());
         pacing.note_sample(table.undecided(sample), sample.len());

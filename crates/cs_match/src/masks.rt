@@ -1,16 +1,12 @@
 // Masks: what each position does over an input, one bit each. They are computed when an input is
-// seen first. All bytes of a class do the same, so that each class has one mask, that of its first
-// byte.
-ghost use Rattle.std.specs.Prelude.{◌≡◌, ℕ, ◌+◌, ◌<◌, ◌≤◌, IfOk, length, true, false, slice_index_or};
+// seen first. All bytes of a class do the same, so each class has one mask, that of its first byte.
+ghost use Rattle.std.specs.Prelude.{◌≡◌, ◌+◌, ◌<◌, IfOk, length, true, false, slice_index_or};
 ghost use Rattle.cs_match.specs.Entered.{position_list};
-ghost use Rattle.cs_match.specs.Masks.{IsMask, IsOneMask, HasRoom, AreMasks};
-ghost use Rattle.cs_match.specs.PositionSet.{is_moved};
-ghost use Rattle.cs_match.specs.Work.{words};
+ghost use Rattle.cs_match.specs.Masks.{IsMask, HasRoom, AreMasks};
 ghost use Rattle.cs_prefilter.specs.CountsAtMost.{CountsAtMost};
 
 use crate::byte_classes::ByteClasses;
-use crate::input::Input;
-use crate::position::Position;
+use crate::position::{Input, Position};
 use crate::position_set::PositionSet;
 use crate::program::Program;
 use cs_prefilter::Steps;
@@ -32,8 +28,6 @@ pub(crate) struct Mask {
     pub(crate) previous: PositionSet,
     /// The positions that are in it if they were in it before.
     pub(crate) kept: PositionSet,
-    /// There are no positions of the last two kinds, as in a program without sets of characters.
-    pub(crate) is_one_mask: bool,
 }
 
 impl Mask {
@@ -52,7 +46,6 @@ impl Mask {
             entered: PositionSet::none(alloc, position_count)?,
             previous: PositionSet::none(alloc, position_count)?,
             kept: PositionSet::none(alloc, position_count)?,
-            is_one_mask: false,
         })
     }
 
@@ -74,37 +67,11 @@ impl Mask {
     {
         self.input = input;
         self.is_known = true;
-        self.is_one_mask = true;
         for (index, position) in positions.iter().enumerate() {
             steps.add(1);
-            let previous = position.if_previous(input);
-            let kept = position.if_kept(input);
             self.entered.put(index, position.if_entered(input));
-            self.previous.put(index, previous);
-            self.kept.put(index, kept);
-            self.is_one_mask &= !(previous | kept);
-        }
-    }
-
-    /// Moves a position set over the input of the mask.
-    pub(crate) fn move_over(
-        &self,
-        entries: &PositionSet,
-        positions: &mut PositionSet,
-        steps: &mut Steps,
-    )
-        requires entries { length entries.now ≡ length positions.old + 1 }
-        requires room { HasRoom (length positions.old) self.now }
-        requires one_mask { self.now.is_one_mask ≡ true → IsOneMask self.now }
-        ensures length { length positions.new ≡ length positions.old }
-        ensures each { (k : ℕ) → k < length positions.old → slice_index_or positions.new k false
-            ≡ is_moved entries.now self.now.entered self.now.previous self.now.kept positions.old k }
-        ensures cost { steps.new.count ≡ steps.old.count + words (length positions.old) }
-    {
-        if self.is_one_mask {
-            positions.move_entered(entries, &self.entered, steps);
-        } else {
-            positions.move_over(entries, &self.entered, &self.previous, &self.kept, steps);
+            self.previous.put(index, position.if_previous(input));
+            self.kept.put(index, position.if_kept(input));
         }
     }
 }

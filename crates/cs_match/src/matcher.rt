@@ -1,6 +1,6 @@
 // Matchers: a lazy DFA (RE2) with the prefilters of its program, and the counters that choose
 // between them.
-ghost use Rattle.std.specs.Prelude.{◌≡◌, ◌≤◌, ◌<◌, ◌+◌, ◌*◌, ◌-◌, ◌↔◌, ℕ, Bool, List, IsTrue, IfOk, IfSome, MatchOption, length, slice_range, drop, count_by};
+ghost use Rattle.std.specs.Prelude.{◌≡◌, ◌≤◌, ◌<◌, ◌+◌, ◌-◌, ◌↔◌, ℕ, Bool, List, IsTrue, IfOk, IfSome, MatchOption, length, slice_range, drop, count_by};
 ghost use Rattle.cs_syntax.specs.Matching.{HasMatch};
 ghost use Rattle.cs_match.specs.Automaton.{after_steps, most_states};
 ghost use Rattle.cs_match.specs.Deciding.{Decides};
@@ -13,7 +13,7 @@ ghost use Rattle.cs_match.specs.Skipping.{AreWholeLines, IsLineAfter, NoneMatch}
 mod cache;
 
 use crate::dfa::LazyDfa;
-use crate::listing::{self, Ways};
+use crate::listing;
 use crate::pacing::Pacing;
 use crate::program::Program;
 use crate::skipping::line_to;
@@ -37,7 +37,7 @@ pub struct Line {
 #[derive(Drop)]
 pub struct Matcher<'a> {
     pub(crate) dfa: LazyDfa<'a>,
-    ways: Ways<'a>,
+    pacing: Pacing,
     /// The list of matching lines: the first `listed` of these.
     ends: Vec<usize>,
     listed: usize,
@@ -51,15 +51,13 @@ impl<'a> Model for Matcher<'a> {
 
     ghost coded = { automaton_code };
 
-    ghost use Rattle.std.specs.Prelude.{IfSome, ◌<◌, ◌≤◌, length, take};
-    ghost use Rattle.cs_match.specs.ConsistentDfa.{IsConsistent, automaton_of, tree_in};
-    ghost use Rattle.cs_prefilter.specs.WordAt.{IsPrefilterOf};
+    ghost use Rattle.std.specs.Prelude.{◌<◌, ◌≤◌, length, take};
+    ghost use Rattle.cs_match.specs.ConsistentDfa.{IsConsistent, automaton_of};
 
     ghost view = { λ matcher. automaton_of matcher.dfa (take matcher.listed matcher.ends.items)
         matcher.steps };
 
     ghost invariant = { λ matcher. IsConsistent matcher.dfa
-        × IfSome matcher.ways.prefilter (λ prefilter. IsPrefilterOf (tree_in matcher.dfa) prefilter.now)
         × (0 < length matcher.ends.items) × (matcher.listed ≤ length matcher.ends.items) };
 }
 
@@ -74,7 +72,7 @@ impl<'a> Matcher<'a> {
         let ends = vec![in alloc; 0usize; LIST]?;
         Ok(Matcher {
             dfa,
-            ways: Ways::new(program, Pacing::NEW),
+            pacing: Pacing::NEW,
             ends,
             listed: 0,
             steps: Steps::new(),
@@ -117,9 +115,8 @@ impl<'a> Matcher<'a> {
         ensures line { IfSome result (λ line. IsLineAfter block.now from line.start line.end) }
         ensures found { IfSome result (λ line. HasMatch self.old.tree
             (slice_range block.now line.start line.end)) }
-        ensures none { (has_match : List ℕ → Bool) → Decides has_match self.old.tree →
-            MatchOption result (NoneMatch has_match (terminated_lines (drop from block.now)))
-            (λ line. NoneMatch has_match
+        ensures none { (has_match : List ℕ → Bool) → Decides has_match self.old.tree → MatchOption result
+            (NoneMatch has_match (terminated_lines (drop from block.now))) (λ line. NoneMatch has_match
             (terminated_lines (slice_range block.now from line.start))) }
         ensures same { self.new.tree ≡ self.old.tree }
         ensures work { WorksWithin (search_work self.old.tree (searched_bytes from (length block.now) result))
@@ -128,7 +125,7 @@ impl<'a> Matcher<'a> {
         let mut ends = [0];
         let listed = listing::list_lines(
             &mut self.dfa,
-            &mut self.ways,
+            &mut self.pacing,
             block,
             from,
             &mut ends,
@@ -157,7 +154,7 @@ impl<'a> Matcher<'a> {
     {
         let lines = listing::list_lines(
             &mut self.dfa,
-            &mut self.ways,
+            &mut self.pacing,
             block,
             from,
             &mut self.ends,

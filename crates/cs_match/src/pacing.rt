@@ -1,15 +1,13 @@
-// Whether the prefilter is worth its cost, and whether one lane is faster than four. No contract
-// depends on it.
+// Whether the prefilter is worth its cost, and one lane faster than four. No contract cites it.
 
-use crate::one_lane::ListedLines;
+use crate::dfa::ListedLines;
 use crate::skipping::Candidate;
 use cs_prefilter::Listed;
 
 /// Below this distance between candidates without a match the DFA alone is faster than a prefilter.
 const NEAR: usize = 256;
 
-/// The cost of such candidates in a row that is put down to chance, in bytes that the DFA scans in
-/// their time.
+/// The cost of such candidates in a row that is put down to chance, in bytes scanned in their time.
 const MOST_WASTED: usize = 16 * NEAR;
 
 /// One lane is faster than four if it reads at most one of so many bytes: it jumps over the rest of
@@ -22,7 +20,7 @@ const LONGEST: usize = 64;
 /// Exponential backoff: the number of parts before something is tried again, 1, 2, 4 and so on, as
 /// long as the answer stays.
 #[derive(Clone, Copy, Drop)]
-struct Backoff {
+pub(crate) struct Backoff {
     remaining: usize,
     last: usize,
 }
@@ -33,11 +31,11 @@ impl Backoff {
         last: 0,
     };
 
-    /// Whether it is not tried for this part. Counts the part if so.
-    fn use_one(&mut self) -> bool {
-        let is_skipped = self.remaining > 0;
+    /// Whether it is over, so that this part is a trial. Counts the part.
+    pub(crate) fn is_over(&mut self) -> bool {
+        let is_over = self.remaining == 0;
         self.remaining = self.remaining.saturating_sub(1);
-        is_skipped
+        is_over
     }
 
     /// Starts a backoff, twice as long as the last one, up to `LONGEST`.
@@ -47,33 +45,26 @@ impl Backoff {
     }
 }
 
-/// Counters that guess what is faster for the text at hand: the prefilter or the DFA alone, and one
-/// lane or four.
+/// Counters that guess what is faster: the prefilter or the DFA alone, and one lane or four.
 #[derive(Drop)]
 pub(crate) struct Pacing {
-    /// Of the prefilter.
-    backoff: Backoff,
-    /// The cost of near candidates in a row that had no match, in bytes that the DFA scans in their
-    /// time.
+    /// The prefilter is used for a part of a block if this is over.
+    pub(crate) prefilter: Backoff,
+    /// The cost of near candidates in a row that had no match, in bytes scanned in their time.
     wasted: usize,
-    /// Of samples of the text.
-    sampling: Backoff,
+    /// A scan begins with a sample of the text if this is over.
+    pub(crate) sampling: Backoff,
     /// One lane is faster than four, since it leaves most lines early.
     pub(crate) one_lane: bool,
 }
 
 impl Pacing {
     pub(crate) const NEW: Pacing = Pacing {
-        backoff: Backoff::NEW,
+        prefilter: Backoff::NEW,
         wasted: 0,
         sampling: Backoff::NEW,
         one_lane: false,
     };
-
-    /// Whether the next scan begins with a sample.
-    pub(crate) fn asks_for_sample(&mut self) -> bool {
-        !self.sampling.use_one()
-    }
 
     /// Notes how many bytes of a sample are read before their lines are decided.
     pub(crate) fn note_sample(&mut self, undecided: usize, len: usize) {
@@ -85,13 +76,7 @@ impl Pacing {
         self.sampling.begin();
     }
 
-    /// Whether the prefilter is used for the next part of a block.
-    pub(crate) fn uses_prefilter(&mut self) -> bool {
-        !self.backoff.use_one()
-    }
-
-    /// Notes how far the candidate of the prefilter was, what others before it cost, and whether
-    /// its line is listed.
+    /// Notes how far a candidate was, what others before it cost, and whether its line is listed.
     pub(crate) fn note_candidate(
         &mut self,
         from: usize,
@@ -99,38 +84,32 @@ impl Pacing {
         listed: ListedLines,
     ) {
         let passed = listed.to.saturating_sub(from);
-        // The DFA would have read each byte that was passed.
-        let wasted = candidate.wasted.saturating_sub(passed);
         let found = listed.count > 0;
         let skipped = match candidate.line {
             Some(line) if found => line.start.saturating_sub(from),
             _ => passed,
         };
-        if skipped >= NEAR && wasted == 0 {
-            self.wasted = 0;
-            self.backoff.last = 0;
-        } else if !found || wasted > 0 {
-            let tested = if found { 0 } else { NEAR };
-            self.wasted = self.wasted.saturating_add(wasted).saturating_add(tested);
-            if self.wasted > MOST_WASTED {
-                self.backoff.begin();
-            }
-        }
+        let tested = if found { 0 } else { NEAR };
+        self.note(skipped >= NEAR, candidate.wasted, passed, tested);
     }
 
-    /// Notes how far a list of lines by their words went, and what candidates that are no words
-    /// cost.
+    /// Notes how far a list by words went, and what candidates that are no words cost.
     pub(crate) fn note_list(&mut self, from: usize, words: Listed) {
-        // The DFA would have read each byte that was passed.
-        let wasted = words.wasted.saturating_sub(words.to.saturating_sub(from));
-        if wasted == 0 {
+        self.note(true, words.wasted, words.to.saturating_sub(from), 0);
+    }
+
+    /// Notes whether a candidate was far, what those before it cost, and what its test did. The DFA
+    /// would have read each byte that was passed.
+    fn note(&mut self, is_far: bool, wasted: usize, passed: usize, tested: usize) {
+        let wasted = wasted.saturating_sub(passed);
+        if is_far && wasted == 0 {
             self.wasted = 0;
-            self.backoff.last = 0;
-            return;
-        }
-        self.wasted = self.wasted.saturating_add(wasted);
-        if self.wasted > MOST_WASTED {
-            self.backoff.begin();
+            self.prefilter.last = 0;
+        } else if wasted > 0 || tested > 0 {
+            self.wasted = self.wasted.saturating_add(wasted).saturating_add(tested);
+            if self.wasted > MOST_WASTED {
+                self.prefilter.begin();
+            }
         }
     }
 }

@@ -15,20 +15,19 @@ use std::alloc::{AllocError, Global};
 
 /// A part of a program.
 #[derive(Drop)]
-pub(crate) enum Part {
+pub(crate) enum Fragment {
     /// A sequence of sets, by the number of its positions.
     Run(usize),
     /// An alternation of such sequences.
     Alternation(Sequences),
-    /// Such sequences one after another, each of them or nothing, by the positions of one and their
-    /// number.
+    /// Such sequences or nothing, one after another: the positions of one, and their number.
     Options(usize, usize),
     /// A concatenation.
-    Cat(Vec<Part>),
+    Cat(Vec<Fragment>),
     /// An alternation.
-    Alt(Vec<Part>),
+    Alt(Vec<Fragment>),
     /// A loop of at least so many iterations.
-    Rep(Box<Part>, u32),
+    Rep(Box<Fragment>, u32),
     LineStart,
     LineEnd,
     WordEdge,
@@ -37,37 +36,37 @@ pub(crate) enum Part {
 
 /// The parts of an expanded tree.
 #[cycle(part_of)]
-pub(crate) fn part_of(alloc: Global, node: &Node) -> Result<Part, AllocError>
+pub(crate) fn part_of(alloc: Global, node: &Node) -> Result<Fragment, AllocError>
     requires { position_count (tree_of node.now) < 2 ^ 64 }
     ensures shape { IfOk result (λ part. HaveSameShape (tree_of node.now) (shape_of part)) }
     ensures size { IfOk result (λ part. size_of part ≤ nodes (tree_of node.now)) }
 {
     match node {
-        Node::Empty => Ok(Part::Run(0)),
-        Node::Set(_) => Ok(Part::Run(1)),
-        Node::Chars(_) => Ok(Part::Run(2)),
+        Node::Empty => Ok(Fragment::Run(0)),
+        Node::Set(_) => Ok(Fragment::Run(1)),
+        Node::Chars(_) => Ok(Fragment::Run(2)),
         Node::Cat(parts) => sequence_of(alloc, parts),
         Node::Alt(parts) => alternation_of(alloc, parts),
         Node::Rep(x, least, _) => {
             let part = part_of(alloc, x)?;
-            Ok(Part::Rep(Box::new(alloc, part)?, *least))
+            Ok(Fragment::Rep(Box::new(alloc, part)?, *least))
         }
-        Node::LineStart => Ok(Part::LineStart),
-        Node::LineEnd => Ok(Part::LineEnd),
-        Node::WordEdge => Ok(Part::WordEdge),
-        Node::NotWordEdge => Ok(Part::NotWordEdge),
+        Node::LineStart => Ok(Fragment::LineStart),
+        Node::LineEnd => Ok(Fragment::LineEnd),
+        Node::WordEdge => Ok(Fragment::WordEdge),
+        Node::NotWordEdge => Ok(Fragment::NotWordEdge),
     }
 }
 
 /// The parts of a concatenation. If they are one part, it is that part.
 #[cycle(part_of)]
-fn sequence_of(alloc: Global, nodes: &[Node]) -> Result<Part, AllocError>
+fn sequence_of(alloc: Global, nodes: &[Node]) -> Result<Fragment, AllocError>
     requires { position_count_of (trees_of nodes.now) < 2 ^ 64 }
     ensures shape { IfOk result (λ part. HaveSameShape (cat (trees_of nodes.now)) (shape_of part)) }
     ensures size { IfOk result (λ part. size_of part ≤ 1 + nodes_of (trees_of nodes.now)) }
 {
     let [first, others @ ..] = nodes else {
-        return Ok(Part::Run(0));
+        return Ok(Fragment::Run(0));
     };
     let mut parts = Vec::new(alloc);
     let mut last = part_of(alloc, first)?;
@@ -79,24 +78,27 @@ fn sequence_of(alloc: Global, nodes: &[Node]) -> Result<Part, AllocError>
         return Ok(last);
     }
     parts.push(last)?;
-    Ok(Part::Cat(parts))
+    Ok(Fragment::Cat(parts))
 }
 
 /// Adds a part after the last one, which is not in the list yet, and returns the new last one. Runs
 /// are one part, and so are options of one length.
-fn add_part(parts: &mut Vec<Part>, last: Part, part: Part) -> Result<Part, AllocError>
+fn add_part(
+    parts: &mut Vec<Fragment>,
+    last: Fragment,
+    part: Fragment,
+) -> Result<Fragment, AllocError>
     requires { position_count (shape_of last) + position_count (shape_of part) < 2 ^ 64 }
-    ensures shape { IfOk result (λ new_last. (ts : Trees) →
-        HaveSameShape
-        (cat (append (shapes_of parts.old.items) (more (shape_of last) (more (shape_of part) ts))))
-        (cat (append (shapes_of parts.new.items) (more (shape_of new_last) ts)))) }
+    ensures shape { IfOk result (λ new_last. (ts : Trees) → HaveSameShape (cat (append (shapes_of
+        parts.old.items) (more (shape_of last) (more (shape_of part) ts)))) (cat (append (shapes_of
+        parts.new.items) (more (shape_of new_last) ts)))) }
     ensures size { IfOk result (λ new_last. sizes_of parts.new.items + size_of new_last
         ≤ sizes_of parts.old.items + (size_of last + size_of part)) }
 {
     match (last, part) {
-        (Part::Run(n), Part::Run(m)) => Ok(Part::Run(n + m)),
-        (Part::Options(n, count), Part::Options(m, more)) if n == m && n > 0 => {
-            Ok(Part::Options(n, count + more))
+        (Fragment::Run(n), Fragment::Run(m)) => Ok(Fragment::Run(n + m)),
+        (Fragment::Options(n, count), Fragment::Options(m, more)) if n == m && n > 0 => {
+            Ok(Fragment::Options(n, count + more))
         }
         (last, part) => {
             parts.push(last)?;
@@ -106,7 +108,7 @@ fn add_part(parts: &mut Vec<Part>, last: Part, part: Part) -> Result<Part, Alloc
 }
 
 #[cycle(part_of)]
-fn alternation_of(alloc: Global, nodes: &[Node]) -> Result<Part, AllocError>
+fn alternation_of(alloc: Global, nodes: &[Node]) -> Result<Fragment, AllocError>
     requires { position_count_of (trees_of nodes.now) < 2 ^ 64 }
     ensures shape { IfOk result (λ part. HaveSameShape (alt (trees_of nodes.now)) (shape_of part)) }
     ensures size { IfOk result (λ part. size_of part ≤ 1 + nodes_of (trees_of nodes.now)) }
@@ -119,7 +121,7 @@ fn alternation_of(alloc: Global, nodes: &[Node]) -> Result<Part, AllocError>
     match runs_of(alloc, &parts)? {
         Some(following) => {
             let sequences = Sequences::new(alloc, following)?;
-            Ok(Part::Alternation(sequences))
+            Ok(Fragment::Alternation(sequences))
         }
         None => Ok(alternation(parts)),
     }
@@ -127,24 +129,24 @@ fn alternation_of(alloc: Global, nodes: &[Node]) -> Result<Part, AllocError>
 
 /// The alternation of the parts. If they are a run and the empty run, it is an option.
 #[tactic(auto, using(crate::proofs::PartLemmas::part_rules, crate::proofs::PartLemmas::size_rules))]
-fn alternation(parts: Vec<Part>) -> Part
+fn alternation(parts: Vec<Fragment>) -> Fragment
     ensures shape { HaveSameShape (alt (shapes_of parts.items)) (shape_of result) }
     ensures size { size_of result ≤ 1 + sizes_of parts.items }
 {
     match &parts[..] {
-        [Part::Run(n), Part::Run(0)] => Part::Options(*n, 1),
-        _ => Part::Alt(parts),
+        [Fragment::Run(n), Fragment::Run(0)] => Fragment::Options(*n, 1),
+        _ => Fragment::Alt(parts),
     }
 }
 
 /// How many positions each part has after its first, if all are runs with positions.
-fn runs_of(alloc: Global, parts: &[Part]) -> Result<Option<Vec<usize>>, AllocError>
+fn runs_of(alloc: Global, parts: &[Fragment]) -> Result<Option<Vec<usize>>, AllocError>
     ensures { IfOk result (λ all. IfSome all (λ following. shapes_of parts.now ≡ runs following.items)) }
 {
     let mut following = Vec::new(alloc);
     for part in parts {
         match part {
-            Part::Run(n) if *n > 0 => following.push(*n - 1)?,
+            Fragment::Run(n) if *n > 0 => following.push(*n - 1)?,
             _ => return Ok(None),
         }
     }

@@ -1,13 +1,18 @@
 // The positions of a tree, and what each does over a byte.
-ghost use Rattle.std.specs.Prelude.{◌≡◌, ◌++◌, IfOk, OnOk};
+ghost use Rattle.std.specs.Prelude.{◌≡◌, ◌++◌, OnOk};
 ghost use Rattle.cs_syntax.specs.Node.{tree_of};
 ghost use Rattle.cs_syntax.specs.NodeList.{trees_of};
 ghost use Rattle.cs_match.specs.Entered.{position_list, position_list_of, if_entered, if_previous, if_kept};
-ghost use Rattle.cs_match.specs.OneWord.{has_byte};
 
-use crate::input::Input;
 use cs_syntax::{ByteSet, CharSet, CharStep, Node};
 use std::alloc::{AllocError, Global};
+
+/// A byte of a line, and what it does to the unfinished character.
+#[derive(Clone, Copy, Drop)]
+pub(crate) struct Input {
+    pub(crate) byte: u8,
+    pub(crate) char: CharStep,
+}
 
 /// A position of the automaton.
 #[derive(Drop)]
@@ -21,16 +26,6 @@ pub(crate) enum Position {
 }
 
 impl Position {
-    /// Whether the byte is in the set of the position.
-    pub(crate) fn has_byte(&self, byte: u8) -> bool
-        ensures { result ≡ has_byte self.now byte }
-    {
-        match self {
-            Position::Bytes(set) => set.contains(byte),
-            _ => false,
-        }
-    }
-
     /// Whether an entered position is in the set after the input.
     pub(crate) fn if_entered(&self, input: Input) -> bool
         ensures { result ≡ if_entered input self.now }
@@ -69,18 +64,9 @@ impl Position {
     }
 }
 
-/// The positions of the tree.
-pub(crate) fn positions_of(alloc: Global, node: &Node) -> Result<Vec<Position>, AllocError>
-    ensures { IfOk result (λ positions. positions.items ≡ position_list (tree_of node.now)) }
-{
-    let mut positions = Vec::new(alloc);
-    add_positions(alloc, node, &mut positions)?;
-    Ok(positions)
-}
-
 /// Adds the positions of the tree.
 #[cycle(add_positions)]
-fn add_positions(
+pub(crate) fn add_positions(
     alloc: Global,
     node: &Node,
     positions: &mut Vec<Position>,

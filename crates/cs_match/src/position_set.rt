@@ -1,5 +1,5 @@
 // Sets of Glushkov positions as bit vectors.
-ghost use Rattle.std.specs.Prelude.{◌≡◌, ◌≢◌, ℕ, ◌+◌, ◌*◌, ◌<◌, ◌≤◌, ◌∷◌, ◌++◌, ◌==◌, ◌&&◌, ◌||◌, nat_le, true, false, IfOk, length, take, drop, replicate, slice_index_or, if◌then◌else◌};
+ghost use Rattle.std.specs.Prelude.{◌≡◌, ℕ, ◌+◌, ◌*◌, ◌<◌, ◌≤◌, ◌∷◌, ◌++◌, ◌==◌, ◌&&◌, nat_le, true, false, IfOk, length, take, drop, replicate, slice_index_or, if◌then◌else◌};
 ghost use Rattle.std.specs.Int.{bit_at};
 ghost use Rattle.cs_match.specs.PositionSet.{positions_of, IsPositionSet, has_from, has_bit_from, intersect, is_moved, is_selected};
 ghost use Rattle.cs_match.specs.Work.{words};
@@ -155,8 +155,7 @@ impl PositionSet {
         }
     }
 
-    /// Makes this the set in which each position is moved to the next one. It has room for one
-    /// position more.
+    /// Makes this the set, with one position more, in which each one is moved to the next.
     pub(crate) fn shift_from(&mut self, from: &PositionSet, steps: &mut Steps)
         requires { length self.old ≡ length from.now + 1 }
         ensures shifted { self.new ≡ false ∷ from.now }
@@ -202,33 +201,11 @@ impl PositionSet {
         }
     }
 
-    /// Moves the set over an input after which only those of the entered positions are in it that
-    /// the mask has.
-    pub(crate) fn move_entered(
-        &mut self,
-        entries: &PositionSet,
-        if_entered: &PositionSet,
-        steps: &mut Steps,
-    )
-        requires entries { length entries.now ≡ length self.old + 1 }
-        requires if_entered { length if_entered.now ≡ length self.old }
-        ensures length { length self.new ≡ length self.old }
-        ensures each { (k : ℕ) → k < length self.old → slice_index_or self.new k false
-            ≡ (slice_index_or entries.now k false && slice_index_or if_entered.now k false) }
-        ensures cost { steps.new.count ≡ steps.old.count + words (length self.old) }
-    {
-        for index in 0..self.words.len() {
-            steps.add(1);
-            self.words[index] = entries.words[index] & if_entered.words[index];
-        }
-    }
-
     /// A hash of the set and of the seed.
     pub(crate) fn hash(&self, seed: u64) -> u64 {
         let mut mixed = seed;
         for word in &self.words {
-            // The high bits of a product depend on all bits of its factors, so they become the low
-            // ones.
+            // The high bits of a product depend on all bits of its factors: they become the low.
             mixed = (mixed ^ *word)
                 .wrapping_mul(0x9e37_79b9_7f4a_7c15)
                 .swap_bytes();

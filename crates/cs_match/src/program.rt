@@ -17,8 +17,8 @@ use crate::byte_classes::ByteClasses;
 use crate::expand::expand;
 use crate::glushkov::count_repeats;
 use crate::look_around::{LookBehind, is_anchored, look_behind};
-use crate::parts::{Part, part_of};
-use crate::position::{Position, positions_of};
+use crate::parts::{Fragment, part_of};
+use crate::position::{Position, add_positions};
 use crate::spans::is_one_word;
 use cs_prefilter::Prefilter;
 use cs_syntax::{CharStep, Cuts, Node, Pattern, Unfinished};
@@ -36,7 +36,7 @@ pub struct Program {
     /// The expanded tree.
     root: Node,
     /// The tree without its sets.
-    part: Part,
+    part: Fragment,
     /// The positions of the tree.
     positions: Vec<Position>,
     /// The number of repeats.
@@ -124,7 +124,7 @@ impl Program {
     }
 
     /// The tree without its sets.
-    pub(crate) fn part(&self) -> &Part
+    pub(crate) fn part(&self) -> &Fragment
         ensures shape { HaveSameShape self.now (shape_of result.now) }
         ensures size { size_of result.now ≤ nodes self.now }
     {
@@ -197,7 +197,7 @@ impl Program {
 /// The allocated parts of a program besides its tree.
 #[derive(Drop)]
 struct Tables {
-    part: Part,
+    part: Fragment,
     positions: Vec<Position>,
     cuts: Cuts,
     prefilter: Option<Prefilter>,
@@ -215,7 +215,8 @@ impl Tables {
         ensures prefilter { IfOk result (λ tables.
             IfSome tables.prefilter (IsPrefilterOf (tree_of root.now))) }
     {
-        let positions = positions_of(alloc, root)?;
+        let mut positions = Vec::new(alloc);
+        add_positions(alloc, root, &mut positions)?;
         let cuts = Cuts::of_tree(alloc, root)?;
         let part = part_of(alloc, root)?;
         let prefilter = Prefilter::of(alloc, root)?;

@@ -1,6 +1,6 @@
 // Alternations of sequences of sets, such as `if|for|while`. They are entered and left by masks of
 // their first and last positions, as in Shift-And (Baeza-Yates, Gonnet).
-ghost use Rattle.std.specs.Prelude.{◌≡◌, ◌++◌, IfOk, OnOk, false, replicate, length};
+ghost use Rattle.std.specs.Prelude.{◌≡◌, ◌++◌, IfOk, OnOk, false, replicate};
 ghost use Rattle.cs_match.specs.Sequences.{firsts_of, lasts_of};
 
 use crate::position_set::PositionSet;
@@ -34,12 +34,18 @@ impl Sequences {
     pub(crate) fn new(alloc: Global, following: Vec<usize>) -> Result<Sequences, AllocError>
         ensures { IfOk result (λ sequences. sequences ≡ following.items) }
     {
-        let firsts = firsts_of(alloc, &following)?;
-        let lasts = lasts_of(alloc, &following)?;
+        let mut firsts = Vec::new(alloc);
+        let mut lasts = Vec::new(alloc);
+        for n in following.iter() {
+            firsts.push(true)?;
+            add_others(&mut firsts, *n)?;
+            add_others(&mut lasts, *n)?;
+            lasts.push(true)?;
+        }
         Ok(Sequences {
+            firsts: PositionSet::of(alloc, &firsts)?,
+            lasts: PositionSet::of(alloc, &lasts)?,
             following,
-            firsts,
-            lasts,
         })
     }
 
@@ -56,30 +62,6 @@ impl Sequences {
     {
         &self.lasts
     }
-}
-
-/// The first position of each sequence.
-fn firsts_of(alloc: Global, following: &[usize]) -> Result<PositionSet, AllocError>
-    ensures { IfOk result (λ firsts. firsts ≡ firsts_of following.now) }
-{
-    let mut firsts = Vec::new(alloc);
-    for n in following {
-        firsts.push(true)?;
-        add_others(&mut firsts, *n)?;
-    }
-    PositionSet::of(alloc, &firsts)
-}
-
-/// The last position of each sequence.
-fn lasts_of(alloc: Global, following: &[usize]) -> Result<PositionSet, AllocError>
-    ensures { IfOk result (λ lasts. lasts ≡ lasts_of following.now) }
-{
-    let mut lasts = Vec::new(alloc);
-    for n in following {
-        add_others(&mut lasts, *n)?;
-        lasts.push(true)?;
-    }
-    PositionSet::of(alloc, &lasts)
 }
 
 /// Adds so many positions that are not in the set.

@@ -1,5 +1,5 @@
 // Skipping of lines that contain none of the required words.
-ghost use Rattle.std.specs.Prelude.{◌≡◌, ◌≤◌, ◌<◌, ◌+◌, ◌*◌, true, take, drop, length, slice_index, slice_range};
+ghost use Rattle.std.specs.Prelude.{◌≡◌, ◌≤◌, ◌<◌, ◌+◌, ◌*◌, ◌-◌, ◌∷◌, take, drop, length, slice_index, slice_range};
 ghost use Rattle.cs_match.specs.NoNewline.{HasNoNewline};
 ghost use Rattle.cs_match.specs.Lines.{newline};
 ghost use Rattle.cs_match.specs.Skipping.{AreWholeLines, IsLineAfter};
@@ -8,13 +8,11 @@ ghost use Rattle.cs_match.specs.Work.{searched_bytes};
 ghost use Rattle.cs_prefilter.specs.OffsetWork.{offset_work};
 ghost use Rattle.cs_prefilter.specs.CountsAtMost.{CountsAtMost};
 
-use crate::lines::line_end;
 use crate::matcher::Line;
 use cs_prefilter::{Prefilter, Steps};
 use memchr::{memchr, memrchr};
 
-/// A line that may contain a word of a prefilter, such that no line before it does, or none if no
-/// line contains one.
+/// The first line that may contain a word of a prefilter, or none if no line contains one.
 #[derive(Clone, Copy)]
 pub(crate) struct Candidate {
     pub(crate) line: Option<Line>,
@@ -22,8 +20,7 @@ pub(crate) struct Candidate {
     pub(crate) wasted: usize,
 }
 
-/// The first line at or after `from` that contains a word of the prefilter, unless its search is
-/// given up before.
+/// The first line at or after `from` with a word of the prefilter, unless it is given up before.
 pub(crate) fn next_candidate(
     prefilter: &Prefilter,
     block: &[u8],
@@ -66,24 +63,8 @@ pub fn line_to(block: &[u8], from: usize, end: usize) -> Line
     ensures line { IsLineAfter block.now from result.start result.end }
     ensures end { result.end ≡ end }
 {
-    // In a long list most lines follow one another.
-    if is_line(block, from, end) {
-        return Line { start: from, end };
-    }
     let start = from + whole_lines_len(&block[from..end]);
     Line { start, end }
-}
-
-/// Whether the first newline at or after `from` is at `end`.
-fn is_line(block: &[u8], from: usize, end: usize) -> bool
-    requires low { from ≤ end }
-    requires within { end < length block.now }
-    ensures { result ≡ true → HasNoNewline (slice_range block.now from end) }
-{
-    match memchr(b'\n', &block[from..]) {
-        Some(offset) => from + offset == end,
-        None => false,
-    }
 }
 
 /// The length of the terminated lines of the text.
@@ -95,5 +76,24 @@ pub fn whole_lines_len(text: &[u8]) -> usize
     match memrchr(b'\n', text) {
         Some(offset) => offset + 1,
         None => 0,
+    }
+}
+
+/// The offset of the first newline at or after `from`.
+pub(crate) fn line_end(block: &[u8], from: usize, steps: &mut Steps) -> usize
+    requires within { from < length block.now }
+    requires whole { AreWholeLines (drop from block.now) }
+    ensures low { from ≤ result }
+    ensures high { result < length block.now }
+    ensures part { HasNoNewline (slice_range block.now from result) }
+    ensures newline { drop result block.now ≡ newline ∷ drop (result + 1) block.now }
+    ensures work { steps.new.count ≡ steps.old.count + (result + 1 - from) }
+{
+    match memchr(b'\n', &block[from..]) {
+        Some(offset) => {
+            steps.add(offset + 1);
+            from + offset
+        }
+        None => unreachable!(),
     }
 }

@@ -31,7 +31,7 @@ pub struct Span {
 
 /// The spans of a line that are in a buffer.
 #[derive(Clone, Copy, Drop)]
-pub struct Listed {
+pub struct ListedSpans {
     /// How many there are.
     pub count: usize,
     /// The budget or the buffer was used up, so that there may be more.
@@ -131,9 +131,8 @@ impl<'a> Finder<'a> {
     /// The first match that is wanted, as one that is a whole word.
     pub fn search(&mut self, line: &[u8], wanted: Wanted) -> Option<Span>
         requires within { wanted.from ≤ length line.now }
-        ensures found { MatchOption result
-            (HasNoMatchOf wanted.whole self.old.tree line.now wanted.from wanted.least)
-            (λ span. IsFirstOf wanted.whole self.old.tree line.now wanted.from wanted.least
+        ensures found { MatchOption result (HasNoMatchOf wanted.whole self.old.tree line.now wanted.from
+            wanted.least) (λ span. IsFirstOf wanted.whole self.old.tree line.now wanted.from wanted.least
             span.start span.end) }
         ensures same { self.new.tree ≡ self.old.tree }
         ensures work { SearchesWithin (length line.now) self.old self.new }
@@ -144,7 +143,13 @@ impl<'a> Finder<'a> {
     /// Lists the matches of the line in their order, or those that are whole words, while there is
     /// room for them and the passes have read fewer bytes than the budget. A search that has begun
     /// is finished.
-    pub fn list(&mut self, line: &[u8], whole: bool, budget: usize, spans: &mut [Span]) -> Listed
+    pub fn list(
+        &mut self,
+        line: &[u8],
+        whole: bool,
+        budget: usize,
+        spans: &mut [Span],
+    ) -> ListedSpans
         ensures listed { IsListing whole self.old.tree line.now spans.old spans.new result }
         ensures stopped { result.stopped ≡ true →
             IsUsedUp budget (length spans.old) result.count self.old self.new }

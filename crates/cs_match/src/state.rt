@@ -1,16 +1,17 @@
 // States of the DFA.
-ghost use Rattle.std.specs.Prelude.{◌≡◌, ◌+◌, ◌*◌, ◌≤◌, ◌↔◌, IfOk, IsTrue, length, replicate, true, false};
+ghost use Rattle.std.specs.Prelude.{◌≡◌, ◌+◌, ◌*◌, ◌↔◌, IfOk, IsTrue, length, replicate, true, false};
 ghost use Rattle.cs_syntax.specs.Matching.{HasMatch};
-ghost use Rattle.cs_match.specs.Glushkov.{position_count, accepts, IsExpanded};
+ghost use Rattle.cs_match.specs.Glushkov.{position_count, accepts, cuts_of, IsExpanded};
+ghost use Rattle.cs_match.specs.Digits.{IsBlock};
 ghost use Rattle.cs_match.specs.Masks.{IsScratch};
 ghost use Rattle.cs_match.specs.Size.{nodes};
 ghost use Rattle.cs_match.specs.Work.{words, step_work};
 ghost use Rattle.cs_match.specs.States.{start, ahead, look_at_end, next_state, successor, accepts_before};
 ghost use Rattle.cs_prefilter.specs.CountsAtMost.{CountsAtMost};
 
-use crate::glushkov::{Offset, Scratch, is_accepting, step_over};
-use crate::input::Input;
+use crate::glushkov::{Offset, Scratch, enter, step_over};
 use crate::look_around::LookAround;
+use crate::position::Input;
 use crate::position_set::PositionSet;
 use crate::program::Program;
 use cs_prefilter::Steps;
@@ -59,8 +60,7 @@ impl State {
 
     /// Whether the state has no positions, and no character is unfinished.
     pub(crate) fn is_empty(&self, steps: &mut Steps) -> bool
-        ensures none { result ≡ true
-            → self.now.positions ≡ replicate (length self.now.positions) false }
+        ensures none { result ≡ true → self.now.positions ≡ replicate (length self.now.positions) false }
         ensures cost { steps.new.count ≡ steps.old.count + words (length self.now.positions) }
     {
         steps.add(self.positions.len().div_ceil(64));
@@ -98,11 +98,10 @@ impl State {
                 return true;
             }
         }
-        self.end(program, steps)
+        self.end(program, scratch, steps)
     }
 
-    /// Moves over a byte, and returns whether the state accepts before it. A newline is the end of
-    /// the line.
+    /// Moves over a byte, or the end of the line, and returns whether the state accepts before it.
     pub(crate) fn step_over(
         &mut self,
         program: &Program,
@@ -112,15 +111,18 @@ impl State {
     ) -> bool
         requires one_each { length self.old.positions ≡ position_count program.now }
         requires scratch { IsScratch program.now scratch.old }
+        requires block { IsBlock (cuts_of program.now) self.old.unfinished }
         ensures accepting { result ≡ accepts_before program.now self.old byte }
         ensures moved { self.new ≡ successor program.now self.old byte }
         ensures scratch { IsScratch program.now scratch.new }
         ensures cost { CountsAtMost (step_work program.now) steps.old steps.new }
     {
-        if byte == b'\n' {
-            self.end(program, steps)
+        // All bytes of the class have the same successor, so that one mask serves them.
+        let first = program.byte_classes().first(byte);
+        if first == b'\n' {
+            self.end(program, scratch, steps)
         } else {
-            self.step_in_line(program, scratch, byte, steps)
+            self.step_in_line(program, scratch, first, steps)
         }
     }
 
@@ -160,14 +162,14 @@ impl State {
         accepting
     }
 
-    /// Moves over the end of the line to the start state, and returns whether the state accepts
-    /// before it.
-    fn end(&mut self, program: &Program, steps: &mut Steps) -> bool
+    /// Moves over the end of the line to the start state. Returns whether the state accepts before.
+    fn end(&mut self, program: &Program, scratch: &mut Scratch, steps: &mut Steps) -> bool
         requires one_each { length self.old.positions ≡ position_count program.now }
-        ensures accepting { result
-            ≡ accepts program.now true self.old.positions (look_at_end self.old) }
+        requires scratch { IsScratch program.now scratch.old }
+        ensures accepting { result ≡ accepts program.now true self.old.positions (look_at_end self.old) }
         ensures moved { self.new ≡ start program.now }
-        ensures cost { CountsAtMost (nodes program.now + words (position_count program.now))
+        ensures scratch { IsScratch program.now scratch.new }
+        ensures cost { CountsAtMost (2 * nodes program.now + 2 * words (position_count program.now) + 1)
             steps.old steps.new }
     {
         let here = LookAround {
@@ -179,7 +181,7 @@ impl State {
             may_begin: true,
             here,
         };
-        let accepting = is_accepting(program, at, &self.positions, steps);
+        let accepting = enter(program, at, &self.positions, scratch, steps);
         self.begin(program, steps);
         accepting
     }

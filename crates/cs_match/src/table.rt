@@ -1,7 +1,6 @@
-// The transition table of the lazy DFA, borrowed by a scan. `specs/Table.antt` says what a scan
-// needs of it.
+// The transition table of the lazy DFA, borrowed by a scan (`specs/Table.antt`).
 ghost use Rattle.std.specs.Prelude.{◌≡◌, ◌≤◌, length};
-ghost use Rattle.cs_match.specs.Table.{next_number, unknown, start, IsRow, HasRows};
+ghost use Rattle.cs_match.specs.Table.{next_number, unknown, table_start, IsRow, HasRows};
 
 /// A transition table: a row for each state, with a transition for each class of bytes. The number
 /// of a state is the index of its row's first transition. Row 0 is that of *found*, the start state
@@ -34,7 +33,7 @@ impl<'a> Table<'a> {
     #[inline(always)]
     pub(crate) fn start(self) -> u16
         requires { HasRows self }
-        ensures { result ≡ start self.entry }
+        ensures { result ≡ table_start self.entry }
     {
         (4 * self.count) as u16
     }

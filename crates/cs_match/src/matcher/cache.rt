@@ -5,7 +5,6 @@ ghost use Rattle.cs_match.specs.Cached.{IsCacheOf};
 
 use super::Matcher;
 use crate::dfa::{LazyDfa, StateCache};
-use crate::listing::Ways;
 use crate::pacing::Pacing;
 use crate::program::Program;
 use cs_prefilter::Steps;
@@ -44,7 +43,7 @@ impl<'a> Matcher<'a> {
         } = cache;
         Matcher {
             dfa: LazyDfa { program, states },
-            ways: Ways::new(program, pacing),
+            pacing,
             ends,
             listed: 0,
             steps,
@@ -57,7 +56,7 @@ impl<'a> Matcher<'a> {
     {
         let Matcher {
             dfa,
-            ways,
+            pacing,
             ends,
             listed: _,
             steps,
@@ -65,7 +64,7 @@ impl<'a> Matcher<'a> {
         let LazyDfa { program: _, states } = dfa;
         Cache {
             states,
-            pacing: ways.pacing,
+            pacing,
             ends,
             steps,
         }

@@ -10,13 +10,13 @@ use cs_syntax::Unfinished;
 
 /// The unfinished character before an offset, and how many bytes were read for it.
 #[derive(Clone, Copy, Drop)]
-pub(super) struct Before {
+pub(super) struct UnfinishedBefore {
     pub(super) unfinished: Unfinished,
     pub(super) read: usize,
 }
 
 /// The unfinished character before an offset of the line.
-pub(super) fn unfinished_before(program: &Program, line: &[u8], offset: usize) -> Before
+pub(super) fn unfinished_before(program: &Program, line: &[u8], offset: usize) -> UnfinishedBefore
     requires { offset ≤ length line.now }
     ensures is { result.unfinished ≡ unfinished_before program.now line.now offset }
     ensures read { result.read ≤ offset }
@@ -26,7 +26,7 @@ pub(super) fn unfinished_before(program: &Program, line: &[u8], offset: usize) -
     for index in from..offset {
         unfinished = program.char_step(unfinished, line[index]).unfinished();
     }
-    Before {
+    UnfinishedBefore {
         unfinished,
         read: offset - from,
     }
@@ -35,9 +35,8 @@ pub(super) fn unfinished_before(program: &Program, line: &[u8], offset: usize) -
 /// An offset before this one, if there is one, at which no character goes on that began before it.
 fn character_start(line: &[u8], offset: usize) -> usize
     requires { offset ≤ length line.now }
-    ensures before { result < offset → (t : Tree)
-        → unfinished_after (char_step_of t finished (slice_index line.now result))
-        ≡ unfinished_before t line.now (result + 1) }
+    ensures before { result < offset → (t : Tree) → unfinished_after (char_step_of t finished (slice_index
+        line.now result)) ≡ unfinished_before t line.now (result + 1) }
     ensures none { offset ≤ result → result ≡ 0 }
     ensures within { result ≤ offset }
 {

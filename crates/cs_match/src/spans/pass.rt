@@ -9,9 +9,9 @@ ghost use Rattle.cs_match.specs.SpanSearch.{BeginFrom, BeginsAt, BeginsBy, EndsA
 ghost use Rattle.cs_match.specs.SpanWork.{pass_bytes, find_bytes};
 
 use super::around::{is_word_after, is_word_before, look_around, unfinished_before};
-use super::{Listed, Span};
-use crate::glushkov::{Offset, Scratch, is_accepting, step_over};
-use crate::input::Input;
+use super::{ListedSpans, Span};
+use crate::glushkov::{Offset, Scratch, enter, step_over};
+use crate::position::Input;
 use crate::position_set::PositionSet;
 use crate::program::Program;
 use cs_prefilter::Steps;
@@ -47,7 +47,7 @@ pub struct Wanted {
 
 /// Those of them that begin in a part of the line.
 #[derive(Clone, Copy, Drop)]
-struct Part {
+struct WantedPart {
     whole: bool,
     /// They begin at or after this offset ..
     from: usize,
@@ -72,7 +72,7 @@ impl Pass {
         line: &[u8],
         whole: bool,
         spans: &mut [Span],
-    ) -> Listed
+    ) -> ListedSpans
         requires ready { IsPassOf program.now self.old }
         ensures listed { IsListing whole program.now line.now spans.old spans.new result }
         ensures stopped { result.stopped ≡ true → IsSpent (length spans.old) result.count self.new }
@@ -88,7 +88,7 @@ impl Pass {
         let mut count = 0;
         'spans: while count < spans.len() && self.left > 0 {
             let Some(span) = self.find(program, line, wanted) else {
-                return Listed {
+                return ListedSpans {
                     count,
                     stopped: false,
                 };
@@ -98,7 +98,7 @@ impl Pass {
             wanted.from = span.end;
             wanted.least = span.end + 1;
         }
-        Listed {
+        ListedSpans {
             count,
             stopped: true,
         }
@@ -108,9 +108,8 @@ impl Pass {
     pub(crate) fn find(&mut self, program: &Program, line: &[u8], wanted: Wanted) -> Option<Span>
         requires within { wanted.from ≤ length line.now }
         requires ready { IsPassOf program.now self.old }
-        ensures found { MatchOption result
-            (HasNoMatchOf wanted.whole program.now line.now wanted.from wanted.least)
-            (λ span. IsFirstOf wanted.whole program.now line.now wanted.from wanted.least
+        ensures found { MatchOption result (HasNoMatchOf wanted.whole program.now line.now wanted.from
+            wanted.least) (λ span. IsFirstOf wanted.whole program.now line.now wanted.from wanted.least
             span.start span.end) }
         ensures read { (k : ℕ) → length line.now < 2 ^ k →
             HasRead program.now (find_bytes k (length line.now)) self.old self.new }
@@ -122,7 +121,7 @@ impl Pass {
         if program.is_short_word() {
             return self.find_word(program, line, wanted);
         }
-        let all = Part {
+        let all = WantedPart {
             whole: wanted.whole,
             from: wanted.from,
             until: line.len() + 1,
@@ -174,7 +173,7 @@ impl Pass {
         let mut high = last;
         'halves: while low < high {
             let until = low + (high - low).div_ceil(2);
-            let part = Part {
+            let part = WantedPart {
                 whole: wanted.whole,
                 from: low,
                 until,
@@ -189,7 +188,7 @@ impl Pass {
     }
 
     /// The first end of a match that begins in the part.
-    fn first_end(&mut self, program: &Program, line: &[u8], part: Part) -> Option<FirstEnd>
+    fn first_end(&mut self, program: &Program, line: &[u8], part: WantedPart) -> Option<FirstEnd>
         requires within { (part.from ≤ length line.now) × (part.least ≤ length line.now) }
         requires ready { IsPassOf program.now self.old }
         ensures none { MatchOption result
@@ -230,13 +229,12 @@ impl Pass {
         ensures ends { MatchOption result
             (BeginFrom wanted.whole program.now line.now wanted.from wanted.least (wanted.from + 1))
             (IsMatchOf wanted.whole program.now line.now wanted.from wanted.least wanted.from) }
-        ensures last { IfSome result (λ last. (end : ℕ)
-            → IsMatchOf wanted.whole program.now line.now wanted.from wanted.least wanted.from end
-            → end ≤ last) }
+        ensures last { IfSome result (λ last. (end : ℕ) → IsMatchOf wanted.whole program.now line.now
+            wanted.from wanted.least wanted.from end → end ≤ last) }
         ensures read { HasRead program.now (pass_bytes (length line.now)) self.old self.new }
         ensures ready { IsPassOf program.now self.new }
     {
-        let part = Part {
+        let part = WantedPart {
             whole: wanted.whole,
             from: wanted.from,
             until: wanted.from + 1,
@@ -285,7 +283,7 @@ impl Pass {
     }
 
     /// Moves over the byte at the offset, and returns whether a match ends before it.
-    fn step(&mut self, program: &Program, line: &[u8], part: Part, offset: usize) -> bool
+    fn step(&mut self, program: &Program, line: &[u8], part: WantedPart, offset: usize) -> bool
         requires within { offset < length line.now }
         requires at { IsPassAt part.whole program.now line.now part.from part.until offset self.old }
         ensures ends { result ≡ ends_in part.whole line.now program.now part.from part.until offset }
@@ -317,9 +315,8 @@ impl Pass {
     }
 
     /// Whether a match ends at the end of the line.
-    fn is_end(&mut self, program: &Program, line: &[u8], part: Part) -> bool
-        requires { IsPassAt part.whole program.now line.now part.from part.until
-            (length line.now) self.old }
+    fn is_end(&mut self, program: &Program, line: &[u8], part: WantedPart) -> bool
+        requires { IsPassAt part.whole program.now line.now part.from part.until (length line.now) self.old }
         ensures ends { result
             ≡ ends_in part.whole line.now program.now part.from part.until (length line.now) }
         ensures at { IsPassAt part.whole program.now line.now part.from part.until
@@ -332,14 +329,20 @@ impl Pass {
         self.read.add(1);
         self.steps.add(1);
         let at = Offset { may_begin, here };
-        let accepts = is_accepting(program, at, &self.positions, &mut self.steps);
+        let accepts = enter(
+            program,
+            at,
+            &self.positions,
+            &mut self.scratch,
+            &mut self.steps,
+        );
         let may_end = may_end(line, part.whole, line.len());
         accepts & may_end
     }
 }
 
 /// Whether a match of the part may begin at the offset.
-fn may_begin(line: &[u8], part: Part, offset: usize) -> bool
+fn may_begin(line: &[u8], part: WantedPart, offset: usize) -> bool
     requires { offset ≤ length line.now }
     ensures { result ≡ may_begin part.whole line.now part.from part.until offset }
 {

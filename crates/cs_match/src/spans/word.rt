@@ -3,7 +3,7 @@
 ghost use Rattle.std.specs.Prelude.{◌≡◌, ◌≤◌, ◌+◌, ◌↔◌, IsTrue, MatchOption, length, true};
 ghost use Rattle.cs_syntax.specs.Node.{tree_of};
 ghost use Rattle.cs_syntax.specs.NodeList.{trees_of};
-ghost use Rattle.cs_match.specs.OneWord.{is_one_word, are_one_word, OccursAt};
+ghost use Rattle.cs_match.specs.OneWord.{is_one_word, are_one_word, has_byte, OccursAt};
 ghost use Rattle.cs_match.specs.Passes.{IsPassOf, HasRead};
 ghost use Rattle.cs_match.specs.Span.{IsFirstOf, HasNoMatchOf, IsWholeWord};
 ghost use Rattle.cs_match.specs.SpanWork.{pass_bytes};
@@ -50,9 +50,8 @@ impl Pass {
         requires within { (wanted.from ≤ length line.now) × (wanted.least ≤ length line.now) }
         requires word { is_one_word program.now ≡ true }
         requires ready { IsPassOf program.now self.old }
-        ensures found { MatchOption result
-            (HasNoMatchOf wanted.whole program.now line.now wanted.from wanted.least)
-            (λ span. IsFirstOf wanted.whole program.now line.now wanted.from wanted.least
+        ensures found { MatchOption result (HasNoMatchOf wanted.whole program.now line.now wanted.from
+            wanted.least) (λ span. IsFirstOf wanted.whole program.now line.now wanted.from wanted.least
             span.start span.end) }
         ensures read { HasRead program.now (pass_bytes (length line.now)) self.old self.new }
         ensures ready { IsPassOf program.now self.new }
@@ -70,6 +69,18 @@ impl Pass {
             start += 1;
         }
         None
+    }
+}
+
+impl Position {
+    /// Whether the byte is in the set of the position.
+    fn has_byte(&self, byte: u8) -> bool
+        ensures { result ≡ has_byte self.now byte }
+    {
+        match self {
+            Position::Bytes(set) => set.contains(byte),
+            _ => false,
+        }
     }
 }
 

@@ -1,6 +1,8 @@
 use Rattle.std.proofs.Common.{◌≡◌, ◌≢◌, ◌+◌, ◌-◌, ◌*◌, ◌/◌, ◌≤◌, ◌++◌, length, take, drop, get_or, refl, sym, ap, subst, ◌∙◌, arith}
 use Rattle.std.specs.Prelude.{slice_index_or}
 use Rattle.cs_prefilter.specs.declared.steps.Steps.{Steps}
+use Rattle.cs_match.specs.ConsistentDfa.{IsConsistent, tree_in}
+use Rattle.cs_match.specs.declared.dfa.LazyDfa.{LazyDfa}
 use Rattle.cs_match.specs.declared.lanes.Lane.{Lane}
 use Rattle.cs_match.specs.Deciding.{Decides}
 use Rattle.cs_match.specs.Work.{byte_work}
@@ -15,10 +17,10 @@ abbrev other : Lane
 other = record { from = 0; number = 0; count = 0 }
 
 pub loop-k-init : goal.loop-k-init
-loop-k-init g c = record {
-  listed = subst (λ at. AreListed (λ has_match. Decides has_match (g.D.OneLane.tree c.args.dfa.now)) c.args.block.now c.args.from at 0 c.four_lanes-lanes.new.ends)
+loop-k-init c = record {
+  listed = subst (λ at. AreListed (λ has_match. Decides has_match (tree_in c.args.dfa.now)) c.args.block.now c.args.from at 0 c.four_lanes-lanes.new.ends)
       (sym c.four_chunks-cuts.ensures.cuts.first)
-      (AreListed-none (λ has_match. Decides has_match (g.D.OneLane.tree c.args.dfa.now)) c.args.block.now c.args.from c.four_lanes-lanes.new.ends c.requires.within);
+      (AreListed-none (λ has_match. Decides has_match (tree_in c.args.dfa.now)) c.args.block.now c.args.from c.four_lanes-lanes.new.ends c.requires.within);
   room = omega arith;
   pending = refl;
   right = c.requires.right;
@@ -28,10 +30,10 @@ loop-k-init g c = record {
 }
 
 pub list_ends-listed-requires-clause-lines : goal.list_ends-listed-requires-clause-lines
-list_ends-listed-requires-clause-lines g c = (c.four_chunks-cuts.ensures.chunks c.loop-k.k c.loop-k-test.true).lines
+list_ends-listed-requires-clause-lines c = (c.four_chunks-cuts.ensures.chunks c.loop-k.k c.loop-k-test.true).lines
 
 pub list_ends-listed-requires-clause-room : goal.list_ends-listed-requires-clause-room
-list_ends-listed-requires-clause-room g c =
+list_ends-listed-requires-clause-room c =
     let k = c.loop-k.k in
     let n = length c.args.ends.now / 4 in
     let next : k * n + n ≡ (k + 1) * n = omega arith in
@@ -42,7 +44,7 @@ list_ends-listed-requires-clause-room g c =
     )
 
 pub append-requires-clause-within : goal.append-requires-clause-within
-append-requires-clause-within g c =
+append-requires-clause-within c =
     let k = c.loop-k.k in
     let n = length c.args.ends.now / 4 in
     let cuts = c.four_chunks-cuts.result in
@@ -58,7 +60,7 @@ append-requires-clause-within g c =
     )
 
 pub overflow_add-count-else-lane-unknown : goal.overflow_add-count-else-lane-unknown
-overflow_add-count-else-lane-unknown g c =
+overflow_add-count-else-lane-unknown c =
     let i = c.loop-k.invariant in
     let k = c.loop-k.k in
     let n = length c.args.ends.now / 4 in
@@ -74,7 +76,7 @@ overflow_add-count-else-lane-unknown g c =
     )
 
 pub loop-k-preserved : goal.loop-k-preserved
-loop-k-preserved g c =
+loop-k-preserved c =
     let i = c.loop-k.invariant in
     let block = c.args.block.now in
     let k = c.loop-k.k in
@@ -82,7 +84,7 @@ loop-k-preserved g c =
     let cuts = c.four_chunks-cuts.result in
     let x = get_or cuts k 0 in
     let y = get_or cuts (k + 1) 0 in
-    let t = g.D.OneLane.tree c.args.dfa.now in
+    let t = tree_in c.args.dfa.now in
     let first = c.four_lanes-lanes.new.ends in
     let stop = (k + 1) * n in
     let count = c.loop-k.count in
@@ -113,8 +115,8 @@ loop-k-preserved g c =
           (omega (arith, chunk.few, len, i.room, next)) listed_to e.most (λ other. e.all other ∙ sym size) in
           let listed : AreListed (λ has_match. Decides has_match t) block x y more own =
           subst (λ k. AreListed (λ has_match. Decides has_match t) block x k more own) full listed_to in
-          let work : w.list_ends-listed.new.steps.count ≤ c.loop-k.steps.count + byte_work (g.D.OneLane.tree c.loop-k.dfa) * (y - x) =
-          subst (λ k. w.list_ends-listed.new.steps.count ≤ c.loop-k.steps.count + byte_work (g.D.OneLane.tree c.loop-k.dfa) * (k - x)) full e.work.1 in
+          let work : w.list_ends-listed.new.steps.count ≤ c.loop-k.steps.count + byte_work (tree_in c.loop-k.dfa) * (y - x) =
+          subst (λ k. w.list_ends-listed.new.steps.count ≤ c.loop-k.steps.count + byte_work (tree_in c.loop-k.dfa) * (k - x)) full e.work.1 in
           let steps = ap (λ (s : Steps). s.count) w.steps-is in
           record {
             listed = subst (λ m. AreListed (λ has_match. Decides has_match t) block c.args.from y m c.if-lane-unknown.ends) (sym w.count-is)
@@ -123,13 +125,13 @@ loop-k-preserved g c =
                 (filled old own c.if-lane-unknown.ends count stop low high size is more listed.room));
             room = omega (arith, w.count-is, listed.room, len, low);
             pending = filled-rest old own c.if-lane-unknown.ends count stop low high size is ∙ pending-far old first (k * n) n stop next i.pending;
-            right = subst g.D.OneLane.is_right (sym w.dfa-is) e.right;
-            same = ap g.D.OneLane.tree w.dfa-is ∙ e.same ∙ i.same;
+            right = subst IsConsistent (sym w.dfa-is) e.dfa.0;
+            same = ap (λ (s : LazyDfa). tree_in s) w.dfa-is ∙ e.dfa.1 ∙ i.same;
             rises = omega (arith, steps, e.work.0, i.rises);
             work = work-more (byte_work t + 1) c.args.from x y c.add.new.self.count c.loop-k.steps.count c.if-lane-unknown.steps.count
                 i.listed.lines.low chunk.lines.low i.work
                 (subst (λ s. s ≤ c.loop-k.steps.count + (byte_work t + 1) * (y - x)) (sym steps)
-                (filled-work (byte_work t) (byte_work (g.D.OneLane.tree c.loop-k.dfa)) (y - x) c.loop-k.steps.count
+                (filled-work (byte_work t) (byte_work (tree_in c.loop-k.dfa)) (y - x) c.loop-k.steps.count
                 w.list_ends-listed.new.steps.count (ap (λ tree. byte_work tree) i.same) work));
           }
       | else-lane-unknown w ↦
@@ -155,8 +157,8 @@ loop-k-preserved g c =
             room = omega (arith, w.count-is, i.room, few, next);
             pending = ap (drop stop) w.ends-is
                 ∙ pending-more w.append.new.ends old first (k * n) lane.count n stop few next w.append.ensures.rest i.pending;
-            right = subst g.D.OneLane.is_right (sym w.dfa-is) i.right;
-            same = ap g.D.OneLane.tree w.dfa-is ∙ i.same;
+            right = subst IsConsistent (sym w.dfa-is) i.right;
+            same = ap (λ (s : LazyDfa). tree_in s) w.dfa-is ∙ i.same;
             rises = omega (arith, steps, w.add-else-lane-unknown.ensures, i.rises);
             work = work-more (byte_work t + 1) c.args.from x y c.add.new.self.count c.loop-k.steps.count c.if-lane-unknown.steps.count
                 i.listed.lines.low chunk.lines.low i.work

@@ -15,11 +15,10 @@ find_ends-returns-in-Rep-clause-noted t c =
     let x = shape_of c.deref-in-Rep.result.now in
     let e : shape_of c.args.part.now ≡ rep x c.in-Rep.least None =
     ap shape_of c.in-Rep.is ∙ shape_of-Rep _ _ ∙ ap (λ n. rep (shape_of n) c.in-Rep.least None) (sym c.deref-in-Rep.ensures) in
-    let ms = drop c.next_repeat-own.new.cursor.position c.args.positions.now in
-    rw (e, ← c.next_repeat-own.ensures.position, c.note_loop.ensures, c.next_repeat-own.ensures.is, c.find_ends-ends.ensures.accepting)
-    (rep_noted c.args.loops.now c.find_ends-ends.new.loops c.args.cursor.now.repeat c.next_repeat-own.new.cursor.repeat
-    (is_final x ms c.args.here) (loop_ends x ms c.args.here)
-    c.next_repeat-own.ensures.repeat c.find_ends-ends.ensures.noted)
+    let ms = drop c.args.cursor.now.position c.args.positions.now in
+    rw (e, c.find_ends-ends.ensures.accepting)
+    (rep_noted c.args.loops.now c.find_ends-ends.new.loops c.args.cursor.now.repeat
+    (is_final x ms c.args.here) (loop_ends x ms c.args.here) c.find_ends-ends.ensures.noted)
 
 pub find_ends_all-loop-part-preserved : goal.find_ends_all-loop-part-preserved
 find_ends_all-loop-part-preserved t c =
@@ -34,7 +33,6 @@ find_ends_all-loop-part-preserved t c =
     record {
       cost = omega (arith, c.find_ends-ends.ensures.cost, i.cost, larger);
       position = omega arith;
-      within = omega arith;
       repeat = omega arith;
       accepting = rw (c.then-all.ensures.accepting, c.find_ends-ends.ensures.accepting, c.find_ends-ends.ensures.nullable)
           (accepted_all t ts c.args.positions.now c.args.here c.loop-part.cursor.position _ next
@@ -59,7 +57,6 @@ find_ends_some-loop-part-preserved t c =
     record {
       cost = omega (arith, c.find_ends-ends.ensures.cost, i.cost, larger);
       position = omega arith;
-      within = omega arith;
       repeat = omega arith;
       accepting = rw (c.or-some.ensures.accepting, c.find_ends-ends.ensures.accepting)
           (accepted_some t ts c.args.positions.now c.args.here c.loop-part.cursor.position _ next
@@ -89,7 +86,7 @@ find_ends-returns-in-Run-clause-position t c =
 pub find_ends-returns-in-Run-clause-repeat : goal.find_ends-returns-in-Run-clause-repeat
 find_ends-returns-in-Run-clause-repeat t c =
     let e : shape_of c.args.part.now ≡ run c.in-Run.n = ap shape_of c.in-Run.is ∙ shape_of-Run c.in-Run.n in
-    rw (e, repeats_run c.in-Run.n) (omega (arith, c.end_run.ensures.repeat, c.requires.within))
+    rw (e, repeats_run c.in-Run.n) (omega (arith, c.end_run.ensures.repeat))
 
 pub find_ends-returns-in-Alternation-clause-noted : goal.find_ends-returns-in-Alternation-clause-noted
 find_ends-returns-in-Alternation-clause-noted t c =
@@ -101,7 +98,7 @@ pub find_ends-returns-in-Alternation-clause-repeat : goal.find_ends-returns-in-A
 find_ends-returns-in-Alternation-clause-repeat t c =
     let ns = c.in-Alternation.sequences in
     let e : shape_of c.args.part.now ≡ alt (runs ns) = ap shape_of c.in-Alternation.is ∙ shape_of-Alternation ns in
-    rw (e, repeats_runs ns) (omega (arith, c.end_sequences.ensures.repeat, c.requires.within))
+    rw (e, repeats_runs ns) (omega (arith, c.end_sequences.ensures.repeat))
 
 pub find_ends-returns-in-Options-clause-noted : goal.find_ends-returns-in-Options-clause-noted
 find_ends-returns-in-Options-clause-noted t c =
@@ -115,4 +112,4 @@ find_ends-returns-in-Options-clause-repeat t c =
     let n = c.in-Options.n in
     let count = c.in-Options.count in
     let e : shape_of c.args.part.now ≡ options n count = ap shape_of c.in-Options.is ∙ shape_of-Options n count in
-    rw (e, repeats_options n count) (omega (arith, c.end_options.ensures.repeat, c.requires.within))
+    rw (e, repeats_options n count) (omega (arith, c.end_options.ensures.repeat))

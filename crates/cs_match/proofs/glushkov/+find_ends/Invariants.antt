@@ -1,4 +1,4 @@
-use Rattle.std.proofs.Common.{◌≡◌, ◌+◌, ◌≤◌, ◌&&◌, ◌||◌, drop, length, min}
+use Rattle.std.proofs.Common.{◌≡◌, ◌+◌, ◌&&◌, ◌||◌, drop}
 use Rattle.std.proofs.Math.Seq.{sets}
 use Rattle.cs_syntax.specs.Matching.{cat}
 use Rattle.cs_match.specs.Parts.{shapes_of, sizes_of}
@@ -12,9 +12,7 @@ invariant-find_ends_all-loop-part l =
     record {
       cost : l.steps.count + sizes_of (drop l.part-index l.parts) ≡ l.fn.steps.count + sizes_of l.parts;
       position : l.cursor.position + position_count_of rest ≡ l.fn.cursor.position + position_count_of parts;
-      within : l.cursor.repeat ≤ length l.fn.loops;
-      repeat : min (length l.fn.loops) (l.cursor.repeat + repeats_of rest)
-          ≡ min (length l.fn.loops) (l.fn.cursor.repeat + repeats_of parts);
+      repeat : l.cursor.repeat + repeats_of rest ≡ l.fn.cursor.repeat + repeats_of parts;
       accepting : accepts (cat rest) l.all.accepting (drop l.cursor.position l.positions) l.here
           ≡ is_final_all parts (drop l.fn.cursor.position l.positions) l.here;
       nullable : (l.all.nullable && nullable_all rest l.here) ≡ nullable_all parts l.here;
@@ -29,9 +27,7 @@ invariant-find_ends_some-loop-part l =
     record {
       cost : l.steps.count + sizes_of (drop l.part-index l.parts) ≡ l.fn.steps.count + sizes_of l.parts;
       position : l.cursor.position + position_count_of rest ≡ l.fn.cursor.position + position_count_of parts;
-      within : l.cursor.repeat ≤ length l.fn.loops;
-      repeat : min (length l.fn.loops) (l.cursor.repeat + repeats_of rest)
-          ≡ min (length l.fn.loops) (l.fn.cursor.repeat + repeats_of parts);
+      repeat : l.cursor.repeat + repeats_of rest ≡ l.fn.cursor.repeat + repeats_of parts;
       accepting : (l.some.accepting || is_final_some rest (drop l.cursor.position l.positions) l.here)
           ≡ is_final_some parts (drop l.fn.cursor.position l.positions) l.here;
       nullable : (l.some.nullable || nullable_some rest l.here) ≡ nullable_some parts l.here;

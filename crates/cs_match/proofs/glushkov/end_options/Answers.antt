@@ -62,7 +62,7 @@ first_in-requires c = omega (arith, c.requires, position_count_options c.args.n 
 pub returns-then-are_many-clause-accepting : goal.returns-then-are_many-clause-accepting
 returns-then-are_many-clause-accepting c = λ here.
     is_final_many c.args.n c.args.cursor.now.position c.args.count c.first_in.result c.option_bits.result
-    c.args.positions.now (c.if-are_many.ensures.some refl) (c.if-are_many.ensures.short refl)
+    c.args.positions.now (c.if-are_many.ensures refl).0 (c.if-are_many.ensures refl).1
     c.option_bits.ensures c.first_in.ensures.found c.first_in.ensures.first here
 
 pub returns-then-are_many-clause-nullable : goal.returns-then-are_many-clause-nullable

@@ -60,15 +60,15 @@ pub returns-clause-accepting : goal.returns-clause-accepting
 returns-clause-accepting c = λ here.
     or_comm c.args.enter _
     ∙ accepts_many c.args.n c.args.cursor.now.position c.args.count c.first_in-last.result c.option_bits.result
-    c.args.positions.now c.requires.some c.requires.short c.option_bits.ensures
+    c.args.positions.now c.requires.many.0 c.requires.many.1 c.option_bits.ensures
     c.first_in-last.ensures.found c.first_in-last.ensures.first c.args.enter here
 
 pub returns-clause-entries : goal.returns-clause-entries
 returns-clause-entries c = λ here.
     entered_many c.args.n c.args.cursor.now.position c.args.count c.first_in-last.result c.option_bits.result
-    c.args.positions.now c.requires.some c.requires.short c.option_bits.ensures
+    c.args.positions.now c.requires.many.0 c.requires.many.1 c.option_bits.ensures
     c.first_in-last.ensures.found c.first_in-last.ensures.first c.args.enter c.if-enter.first c.option_bits-2.result
-    c.args.entries.now c.fill.new.self c.put.new.self c.requires.many
+    c.args.entries.now c.fill.new.self c.put.new.self c.requires.many.2
     (omega (arith, c.requires.room, position_count_options c.args.n c.args.count)) c.requires.shifted
     (λ e. elim c.if-enter.branch [ then-enter w ↦ w.first-is | else-enter w ↦ absurd (true≢false (sym e ∙ w.if-enter.false)) ])
     (λ e. elim c.if-enter.branch [ then-enter w ↦ absurd (true≢false (sym w.if-enter.true ∙ e)) | else-enter w ↦ w.first-is ])

@@ -8,5 +8,5 @@ returns-then-n-eq1 c = λ k.
 
 pub returns-else-n-eq1 : goal.returns-else-n-eq1
 returns-else-n-eq1 c = λ k.
-    let two : 2 ≡ c.args.n = omega (arith, c.requires.some, c.requires.short, c.if-n-eq1.false) in
+    let two : 2 ≡ c.args.n = omega (arith, c.requires.0, c.requires.1, c.if-n-eq1.false) in
     other-bit c.args.at k ∙ ap (λ n. eqb ((c.args.at + k) % n) 0) two

@@ -1,7 +1,10 @@
-use Rattle.std.proofs.Common.{◌≡◌, ◌+◌, ◌-◌, ◌*◌, ◌<◌, ◌≤◌, ◌++◌, length, take, drop, refl, sym, ap, ◌∙◌, arith, length-take, length-drop}
+use Rattle.std.proofs.Common.{◌≡◌, ◌+◌, ◌-◌, ◌*◌, ◌<◌, ◌≤◌, ◌++◌, length, take, drop, refl, sym, subst, ap, ◌∙◌, arith, length-take, length-drop}
 use Rattle.std.proofs.Common.{inl, inr}
+use Rattle.std.specs.Prelude.{slice_index}
 use Rattle.std.proofs.lemmas.Bool.{cases_lt}
+use Rattle.cs_match.specs.ConsistentDfa.{tree_in}
 use Rattle.cs_match.specs.Deciding.{Decides}
+use Rattle.cs_match.specs.Lanes.{AreListed}
 use Rattle.cs_match.specs.Work.{byte_work}
 use Rattle.cs_match.proofs.ChunkLemmas.{AreListed-append, filled, filled-len, own-len}
 use Rattle.cs_match.proofs.ListingLemmas.{first_of_rest}
@@ -10,7 +13,7 @@ use Rattle.cs_match.proofs.WordEndLemmas.{open_low, open_lines, open_part, open_
 use Rattle.cs_match.proofs.listing.finish_list.Goals as goal
 
 pub line_end-requires-clause-within : goal.line_end-requires-clause-within
-line_end-requires-clause-within g c =
+line_end-requires-clause-within c =
     let q = c.requires.listed in
     let e = c.whole_lines_len.ensures in
     let low : c.args.from ≤ c.args.words.to = omega (arith, q.moves) in
@@ -19,18 +22,18 @@ line_end-requires-clause-within g c =
     (omega (arith, start, c.if-start-words.false))
 
 pub line_end-requires-clause-whole : goal.line_end-requires-clause-whole
-line_end-requires-clause-whole g c = whole_from c.args.block.now c.args.from c.args.words.to (omega (arith, c.requires.listed.moves)) c.requires.whole
+line_end-requires-clause-whole c = whole_from c.args.block.now c.args.from c.args.words.to (omega (arith, c.requires.listed.moves)) c.requires.whole
 
 pub list_line-last-requires-clause-line : goal.list_line-last-requires-clause-line
-list_line-last-requires-clause-line g c =
+list_line-last-requires-clause-line c =
     let q = c.requires.listed in
     let e = c.whole_lines_len.ensures in
     let l = c.line_end.ensures in
     open_line c.args.block.now c.args.from c.args.words.to c.whole_lines_len.result (omega (arith, q.moves)) q.high e.within e.whole e.rest
-    (g.D.OneLane.tree c.args.dfa.now) c.line_end.result l.low l.high l.part l.newline
+    (tree_in c.args.dfa.now) c.line_end.result l.low l.high l.part l.newline
 
 pub list_line-last-requires-clause-room : goal.list_line-last-requires-clause-room
-list_line-last-requires-clause-room g c =
+list_line-last-requires-clause-room c =
     let q = c.requires.listed in
     let e = c.whole_lines_len.ensures in
     let block = c.args.block.now in
@@ -47,14 +50,34 @@ list_line-last-requires-clause-room g c =
       | inl some ↦ some
       | inr all ↦
           let is : count ≡ length ends = omega (arith, all, q.room) in
-          let last = end_below (g.D.OneLane.tree c.args.dfa.now) block from (from + size) count ends listed (omega (arith, is, c.requires.room)) in
+          let last = end_below (tree_in c.args.dfa.now) block from (from + size) count ends listed (omega (arith, is, c.requires.room)) in
           let no : ⊥ = omega (arith, last, q.full is, start, c.if-start-words.false) in
           absurd no
     ] in
     omega (arith, room, length-take (length ends - count) (drop count ends), length-drop count ends)
 
+pub returns-then-start-words-clause-lists : goal.returns-then-start-words-clause-lists
+returns-then-start-words-clause-lists c =
+    let q = c.requires.listed in
+    let e = c.whole_lines_len.ensures in
+    let block = c.args.block.now in
+    let from = c.args.from in
+    let to = c.args.words.to in
+    let size = c.whole_lines_len.result in
+    let low : from ≤ to = omega (arith, q.moves) in
+    let start = open_low block from to size low q.high e.within e.whole e.rest in
+    record {
+      listed =
+          subst (λ n. AreListed (λ has_match. Decides has_match (tree_in c.args.dfa.now)) block from n c.args.words.count c.args.ends.now)
+          c.if-start-words.true
+          (q.listed (from + size) (open_lines block from to size low q.high e.within e.whole e.rest) start
+          (open_part block from to size low q.high e.within e.whole e.rest));
+      moves = λ _. q.moves;
+      one = λ one counted. q.full (omega (arith, one, counted)) ∙ ap (λ n. slice_index c.args.ends.now (n - 1) + 1) counted;
+    }
+
 pub returns-clause-lists : goal.returns-clause-lists
-returns-clause-lists g c =
+returns-clause-lists c =
     let q = c.requires.listed in
     let e = c.whole_lines_len.ensures in
     let block = c.args.block.now in
@@ -75,7 +98,7 @@ returns-clause-lists g c =
     let len : length later ≡ length old = filled-len old own later count (length old) q.room (omega arith) long refl in
     let all : length own ≡ length old - count = own-len old own later count (length old) q.room (omega arith) long refl in
     record {
-      listed = AreListed-append (λ has_match. Decides has_match (g.D.OneLane.tree c.args.dfa.now)) block from (from + size) last.to count last.count
+      listed = AreListed-append (λ has_match. Decides has_match (tree_in c.args.dfa.now)) block from (from + size) last.to count last.count
           old own later listed lists.listed (omega (arith, len, all, lists.listed.room, q.room))
           (filled old own later count (length old) q.room (omega arith) long refl last.count lists.listed.room);
       moves = λ within. omega (arith, c.list_line-last.ensures.all, c.line_end.ensures.low, q.moves);
@@ -84,7 +107,7 @@ returns-clause-lists g c =
           elim (cases_lt 0 count) [
             | inl some ↦
                 let is : count ≡ length old = omega (arith, some, q.room, single) in
-                let end = end_below (g.D.OneLane.tree c.args.dfa.now) block from (from + size) count old listed some in
+                let end = end_below (tree_in c.args.dfa.now) block from (from + size) count old listed some in
                 let no : ⊥ = omega (arith, end, q.full is, start, c.if-start-words.false) in
                 absurd no
             | inr few ↦
@@ -95,14 +118,14 @@ returns-clause-lists g c =
     }
 
 pub returns-clause-work : goal.returns-clause-work
-returns-clause-work g c =
+returns-clause-work c =
     let q = c.requires.listed in
     let e = c.whole_lines_len.ensures in
     let from = c.args.from in
     let to = c.args.words.to in
     let size = c.whole_lines_len.result in
     let end = c.line_end.result in
-    let w = byte_work (g.D.OneLane.tree c.args.dfa.now) in
+    let w = byte_work (tree_in c.args.dfa.now) in
     let start = open_low c.args.block.now from to size (omega (arith, q.moves)) q.high e.within e.whole e.rest in
     let l = c.list_line-last.ensures in
     let cost = line_cost from (from + size) to end w (omega arith) start c.line_end.ensures.low in (

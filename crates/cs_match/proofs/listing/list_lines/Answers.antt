@@ -1,4 +1,5 @@
 use Rattle.std.proofs.Common.{◌≡◌, ◌+◌, ◌-◌, ◌≤◌, ◌++◌, length, take, drop, refl, sym, ap, subst, ◌∙◌, arith}
+use Rattle.cs_match.specs.ConsistentDfa.{tree_in}
 use Rattle.cs_match.specs.Deciding.{Decides}
 use Rattle.cs_match.specs.Listing.{ListsLines}
 use Rattle.cs_match.specs.Work.{list_work, listed_byte_work}
@@ -9,26 +10,25 @@ use Rattle.cs_match.proofs.WholeLineLemmas.{whole_from}
 use Rattle.cs_match.proofs.listing.list_lines.Goals as goal
 
 pub parts-init : goal.parts-init
-parts-init g c = record {
-  listed = AreListed-none (λ has_match. Decides has_match (g.D.OneLane.tree c.args.dfa.now)) c.args.block.now c.args.from c.args.ends.now c.requires.within;
+parts-init c = record {
+  listed = AreListed-none (λ has_match. Decides has_match (tree_in c.args.dfa.now)) c.args.block.now c.args.from c.args.ends.now c.requires.within;
   one = λ len none. let no : ⊥ = omega (arith, none) in absurd no;
   right = c.requires.right;
   same = refl;
-  prefilter = refl;
   rises = omega arith;
   work = omega arith;
 }
 
 pub list_part-part-requires-clause-whole : goal.list_part-part-requires-clause-whole
-list_part-part-requires-clause-whole g c =
+list_part-part-requires-clause-whole c =
     whole_from c.args.block.now c.args.from c.parts.to c.parts.invariant.listed.lines.low c.requires.whole
 
 pub parts-preserved : goal.parts-preserved
-parts-preserved g c =
+parts-preserved c =
     let i = c.parts.invariant in
     let e = c.list_part-part.ensures in
     let block = c.args.block.now in
-    let t = g.D.OneLane.tree c.args.dfa.now in
+    let t = tree_in c.args.dfa.now in
     let count = c.parts.count in
     let old = c.parts.ends in
     let own = c.list_part-part.new.ends in
@@ -49,7 +49,6 @@ parts-preserved g c =
           lists.one (omega (arith, all, single, none)) (omega (arith, counted, none)) ∙ ap (λ n. n + 1) (sym first);
       right = e.dfa.0;
       same = e.dfa.1 ∙ i.same;
-      prefilter = e.same ∙ i.prefilter;
       rises = omega (arith, e.work.0, i.rises);
       work = omega (
         arith,

@@ -1,11 +1,11 @@
 use Rattle.std.proofs.Common.{◌≡◌, ◌≤◌, ◌+◌, ◌-◌, true, length, sym, ap, subst, ◌∙◌, arith}
-use Rattle.std.specs.Prelude.{IfSome, List, ℕ}
+use Rattle.std.specs.Prelude.{List, ℕ}
 use Rattle.cs_prefilter.specs.declared.steps.Steps.{Steps}
-use Rattle.cs_prefilter.specs.WordAt.{IsPrefilterOf}
+use Rattle.cs_match.specs.ConsistentDfa.{tree_in}
 use Rattle.cs_match.specs.Candidates.{IsCandidate}
 use Rattle.cs_match.specs.Listing.{ListsLines}
 use Rattle.cs_match.specs.Work.{byte_work, list_work, searched_bytes}
-use Rattle.cs_match.specs.declared.one_lane.ListedLines.{ListedLines}
+use Rattle.cs_match.specs.declared.dfa.ListedLines.{ListedLines}
 use Rattle.cs_match.proofs.CandidateLemmas.{no_candidate, before_candidate}
 use Rattle.cs_match.proofs.ListingLemmas.{AreListed-skipped, line_alone, ListsLines-skipped}
 use Rattle.cs_match.proofs.SkippedLineLemmas.{AreBytes}
@@ -15,19 +15,18 @@ use Rattle.cs_match.proofs.listing.list_part.Goals as goal
 use Rattle.cs_match.proofs.listing.list_part.Goals.{in-Some-line, in-None}
 
 pub list_line-listed-requires-clause-line : goal.list_line-listed-requires-clause-line
-list_line-listed-requires-clause-line g c =
+list_line-listed-requires-clause-line c =
     let e = subst (λ line. IsCandidate c.in-Some.prefilter.now.0 c.args.block.now c.args.from line) c.in-Some-line.is c.next_candidate-candidate.ensures.candidate in
-    line_alone (g.D.OneLane.tree c.args.dfa.now) c.args.block.now c.args.from c.in-Some-line.line.start c.in-Some-line.line.end e.line
+    line_alone (tree_in c.args.dfa.now) c.args.block.now c.args.from c.in-Some-line.line.start c.in-Some-line.line.end e.line
 
 pub list-listed-requires-clause-whole : goal.list-listed-requires-clause-whole
-list-listed-requires-clause-whole g c = whole_ends c.args.block.now c.args.from c.requires.whole
+list-listed-requires-clause-whole c = whole_ends c.args.block.now c.args.from c.requires.whole
 
 pub finish_list-requires-clause-listed : goal.finish_list-requires-clause-listed
-finish_list-requires-clause-listed g c =
-    let tree = g.D.OneLane.tree c.args.dfa.now in
+finish_list-requires-clause-listed c =
+    let tree = tree_in c.args.dfa.now in
     let prefilter = c.in-Some.prefilter.now in
-    let is : IsPrefilterOf tree prefilter =
-    subst (λ s. IfSome s (λ prefilter. IsPrefilterOf tree prefilter.now)) c.in-Some.ensures.is c.requires.prefilter in
+    let is = c.in-Some.ensures in
     let exact : prefilter.1 ≡ true = sym c.is_exact.ensures ∙ c.if-is_exact.true in
     let within : c.args.from ≤ length c.args.block.now = omega (arith, c.requires.within) in
     let bytes : AreBytes c.args.block.now = λ i. omega (arith, c.type_inv.block i) in
@@ -42,11 +41,10 @@ finish_list-requires-clause-listed g c =
     }
 
 pub returns-then-is_exact-clause-work : goal.returns-then-is_exact-clause-work
-returns-then-is_exact-clause-work g c =
-    let tree = g.D.OneLane.tree c.args.dfa.now in
+returns-then-is_exact-clause-work c =
+    let tree = tree_in c.args.dfa.now in
     let prefilter = c.in-Some.prefilter.now in
-    let is : IsPrefilterOf tree prefilter =
-    subst (λ s. IfSome s (λ prefilter. IsPrefilterOf tree prefilter.now)) c.in-Some.ensures.is c.requires.prefilter in
+    let is = c.in-Some.ensures in
     let exact : prefilter.1 ≡ true = sym c.is_exact.ensures ∙ c.if-is_exact.true in
     let bytes : AreBytes c.args.block.now = λ i. omega (arith, c.type_inv.block i) in
     let e = c.list-listed.ensures in
@@ -61,12 +59,11 @@ returns-then-is_exact-clause-work g c =
     )
 
 pub returns-clause-lists : goal.returns-clause-lists
-returns-clause-lists g c =
-    let tree = g.D.OneLane.tree c.args.dfa.now in
+returns-clause-lists c =
+    let tree = tree_in c.args.dfa.now in
     let words = c.in-Some.prefilter.now.0 in
     let block = c.args.block.now in
-    let is : IsPrefilterOf tree c.in-Some.prefilter.now =
-    subst (λ s. IfSome s (λ prefilter. IsPrefilterOf tree prefilter.now)) c.in-Some.ensures.is c.requires.prefilter in
+    let is = c.in-Some.ensures in
     elim c.match-candidate.branch [
       | in-Some-line w ↦
           let line = w.in-Some-line.line in
@@ -87,8 +84,8 @@ returns-clause-lists g c =
     ]
 
 pub returns-clause-work : goal.returns-clause-work
-returns-clause-work g c =
-    let tree = g.D.OneLane.tree c.args.dfa.now in
+returns-clause-work c =
+    let tree = tree_in c.args.dfa.now in
     let words = c.in-Some.prefilter.now.0 in
     let block = c.args.block.now in
     let candidate = c.next_candidate-candidate.ensures in

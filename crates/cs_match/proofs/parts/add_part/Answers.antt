@@ -4,7 +4,7 @@ use Rattle.cs_syntax.specs.TreeList.{append}
 use Rattle.cs_syntax.proofs.TreeListLemmas.{append_assoc_trees}
 use Rattle.cs_match.specs.Glushkov.{position_count}
 use Rattle.cs_match.specs.Parts.{run, optional_run, options, shape_of, shapes_of, HaveSameShape}
-use Rattle.cs_match.specs.declared.parts.Part.{Part}
+use Rattle.cs_match.specs.declared.parts.Fragment.{Fragment}
 use Rattle.cs_match.proofs.PartLemmas.{shape_of-Run, shape_of-Options, shapes_last}
 use Rattle.cs_match.proofs.ShapeLemmas.{position_count_run, shape_refl, before_same, copies_more}
 use Rattle.cs_match.proofs.TraversalLemmas.{few_options}
@@ -57,7 +57,7 @@ returns-in_ok-push-in_default-clause-shape c = λ ts.
     let pushed : append (shapes_of c.push.new.self.items) rest ≡ whole =
     ap (λ ws. append ws rest) (ap shapes_of c.in_ok-push-in_default.ensures.items ∙ shapes_last c.args.parts.now.items c.args.last)
     ∙ append_assoc_trees us (more (shape_of c.args.last) none) rest in
-    let by : (part : Part) → part ≡ c.args.part →
+    let by : (part : Fragment) → part ≡ c.args.part →
     HaveSameShape (cat whole) (cat (append (shapes_of c.push.new.self.items) (more (shape_of part) ts))) =
     λ part same. rw (same, pushed) (shape_refl (cat whole)) in
     by _ (search rules)

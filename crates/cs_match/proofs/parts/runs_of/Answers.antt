@@ -2,7 +2,7 @@ use Rattle.std.proofs.Common.{◌≡◌, ℕ, suc, ◌+◌, ◌-◌, List, drop,
 use Rattle.cs_syntax.specs.Matching.{more, none}
 use Rattle.cs_syntax.specs.TreeList.{append}
 use Rattle.cs_syntax.proofs.TreeListLemmas.{append_assoc_trees, append_none}
-use Rattle.cs_match.specs.declared.parts.Part.{Part}
+use Rattle.cs_match.specs.declared.parts.Fragment.{Fragment}
 use Rattle.cs_match.specs.Parts.{run, runs, shape_of, shapes_of}
 use Rattle.cs_match.proofs.PartLemmas.{shape_of-Run, shapes_from, runs_last}
 use Rattle.cs_match.proofs.parts.runs_of.Goals as goal
@@ -24,6 +24,6 @@ loop-part-preserved c =
 pub returns : goal.returns
 returns c =
     sym c.loop-part.invariant
-    ∙ ap (λ (ps : List Part). append (runs c.loop-part.following.items) (shapes_of ps))
+    ∙ ap (λ (ps : List Fragment). append (runs c.loop-part.following.items) (shapes_of ps))
     (drop_of_length-le c.args.parts.now {i = c.loop-part.part-index} (omega arith))
     ∙ append_none (runs c.loop-part.following.items)

@@ -1,4 +1,4 @@
-use Rattle.std.proofs.Common.{◌≡◌, ◌+◌, ◌*◌, ◌<◌, ◌≤◌, ◌++◌, ◌∷◌, [], ℕ, length, get_or, sym, ◌∙◌, ap, subst, arith}
+use Rattle.std.proofs.Common.{refl, ◌≡◌, ◌+◌, ◌*◌, ◌<◌, ◌≤◌, ◌++◌, ◌∷◌, [], ℕ, length, get_or, sym, ◌∙◌, ap, subst, arith}
 use Rattle.std.specs.Prelude.{Result, Ok, is_ok, if◌then◌else◌}
 use Rattle.cs_match.specs.CachedStates.{StateList}
 use Rattle.cs_match.specs.ConsistentDfa.{tree_in, count_in, state_in}
@@ -98,8 +98,8 @@ returns-clause-kept c = λ slot at.
           c.resize.new.self.items long same blank slot at.within,
     )
 
-pub returns-clause-right : goal.returns-clause-right
-returns-clause-right c =
+pub returns-clause-dfa : goal.returns-clause-dfa
+returns-clause-dfa c =
     let s = c.args.self.now in
     let right = c.requires.right in
     let long : length c.resize.new.self.items ≡ length s.states.transitions.items + count_in s =
@@ -122,17 +122,19 @@ returns-clause-right c =
       scaled (length s.states.cached.items + 1) s.states.cached.most (count_in s) (omega (arith, c.requires.room)),
       right.capacity,
     ))) (omega (arith, ge, s.states.transitions.ok.0))
-    (omega (arith, lt, long, c.len.ensures, s.states.transitions.ok.0)) in
-    record {
-      expanded = right.expanded;
-      classes = right.classes;
-      cached = subst (AreStates (tree_in s) (count_in s)) (sym c.push.ensures)
-          (added_states (tree_in s) s.states.classes s.states.cached s.states.transitions.items right.classes right.cached right.table s.states.scratch
-          c.resize.new.self.items long same blank c.requires.room right.room c.requires.block);
-      table = subst (λ (states : StateList). IsTable (tree_in s) s.states.classes states.items c.resize.new.self.items) (sym c.push.ensures)
-          (added_table (tree_in s) s.states.classes s.states.cached s.states.transitions.items right.classes right.cached right.table s.states.scratch
-          c.resize.new.self.items long same blank);
-      capacity = omega (arith, right.capacity, c.resize.ensures.capacity);
-      room = right.room;
-      memory = right.memory;
-    }
+    (omega (arith, lt, long, c.len.ensures, s.states.transitions.ok.0)) in (
+      record {
+        expanded = right.expanded;
+        classes = right.classes;
+        cached = subst (AreStates (tree_in s) (count_in s)) (sym c.push.ensures)
+            (added_states (tree_in s) s.states.classes s.states.cached s.states.transitions.items right.classes right.cached right.table s.states.scratch
+            c.resize.new.self.items long same blank c.requires.room right.room c.requires.block);
+        table = subst (λ (states : StateList). IsTable (tree_in s) s.states.classes states.items c.resize.new.self.items) (sym c.push.ensures)
+            (added_table (tree_in s) s.states.classes s.states.cached s.states.transitions.items right.classes right.cached right.table s.states.scratch
+            c.resize.new.self.items long same blank);
+        capacity = omega (arith, right.capacity, c.resize.ensures.capacity);
+        room = right.room;
+        memory = right.memory;
+      },
+      refl,
+    )

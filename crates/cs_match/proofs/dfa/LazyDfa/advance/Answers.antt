@@ -34,8 +34,8 @@ line_end-requires-clause-within c =
     let known = c.follow_known-known in
     let next = c.next-number in
     let is : next.result ≡ match_number (count_in next.new.self) = eqb-true next.result _ (sym c.is_matched.ensures ∙ c.if-is_matched.true) in
-    let some = some_classes (tree_in next.new.self) next.new.self.states.classes next.ensures.right.classes in
-    before_newline c.args.self.now next.new.self next.ensures.same next.ensures.right c.args.text.now c.args.scan known.result
+    let some = some_classes (tree_in next.new.self) next.new.self.states.classes next.ensures.dfa.0.classes in
+    before_newline c.args.self.now next.new.self next.ensures.dfa.1 next.ensures.dfa.0 c.args.text.now c.args.scan known.result
     known.ensures.passes known.ensures.low known.ensures.scanned (before_end known.result.to _ known.ensures.scanned.within c.if-known-text.false)
     next.result (next.ensures.leads _ known.ensures.scanned.at) c.requires.whole
     (λ e. omega (arith, e, is, some)) (λ e. omega (arith, e, is, some))
@@ -50,7 +50,7 @@ returns-then-is_matched-clause-lists c =
     let next = c.next-number in
     let line = c.line_end.ensures in
     let is : next.result ≡ match_number (count_in next.new.self) = eqb-true next.result _ (sym c.is_matched.ensures ∙ c.if-is_matched.true) in
-    (over_match c.args.self.now next.new.self next.ensures.same next.ensures.right c.args.text.now c.args.scan known.result
+    (over_match c.args.self.now next.new.self next.ensures.dfa.1 next.ensures.dfa.0 c.args.text.now c.args.scan known.result
     known.ensures.passes known.ensures.low known.ensures.scanned (before_end known.result.to _ known.ensures.scanned.within c.if-known-text.false)
     next.result (next.ensures.leads _ known.ensures.scanned.at) c.line_end.result line.low line.high line.part line.newline is).1
 
@@ -60,7 +60,7 @@ returns-then-is_matched-clause-scanned c =
     let next = c.next-number in
     let line = c.line_end.ensures in
     let is : next.result ≡ match_number (count_in next.new.self) = eqb-true next.result _ (sym c.is_matched.ensures ∙ c.if-is_matched.true) in
-    (over_match c.args.self.now next.new.self next.ensures.same next.ensures.right c.args.text.now c.args.scan known.result
+    (over_match c.args.self.now next.new.self next.ensures.dfa.1 next.ensures.dfa.0 c.args.text.now c.args.scan known.result
     known.ensures.passes known.ensures.low known.ensures.scanned (before_end known.result.to _ known.ensures.scanned.within c.if-known-text.false)
     next.result (next.ensures.leads _ known.ensures.scanned.at) c.line_end.result line.low line.high line.part line.newline is).0
 
@@ -86,8 +86,8 @@ line_end-requires-then-is_dead-clause-within c =
     let known = c.follow_known-known in
     let next = c.next-number in
     let is : next.result ≡ dead_number (count_in next.new.self) = eqb-true next.result _ (sym c.is_dead.ensures ∙ c.if-is_dead.true) in
-    let some = some_classes (tree_in next.new.self) next.new.self.states.classes next.ensures.right.classes in
-    before_newline c.args.self.now next.new.self next.ensures.same next.ensures.right c.args.text.now c.args.scan known.result
+    let some = some_classes (tree_in next.new.self) next.new.self.states.classes next.ensures.dfa.0.classes in
+    before_newline c.args.self.now next.new.self next.ensures.dfa.1 next.ensures.dfa.0 c.args.text.now c.args.scan known.result
     known.ensures.passes known.ensures.low known.ensures.scanned (before_end known.result.to _ known.ensures.scanned.within c.if-known-text.false)
     next.result (next.ensures.leads _ known.ensures.scanned.at) c.requires.whole
     (λ e. omega (arith, e, is, some)) (λ e. omega (arith, e, is, some))
@@ -104,7 +104,7 @@ returns-then-is_dead-clause-lists c =
     let is : next.result ≡ dead_number (count_in next.new.self) = eqb-true next.result _ (sym c.is_dead.ensures ∙ c.if-is_dead.true) in
     subst (λ number. ListsLine (tree_in c.args.self.now) c.args.text.now c.args.scan
     (record { from = known.result.from; to = c.line_end-then-is_dead.result + 1; number = number })) (sym c.start.ensures.number)
-    (over_dead c.args.self.now next.new.self next.ensures.same next.ensures.right c.args.text.now c.args.scan known.result
+    (over_dead c.args.self.now next.new.self next.ensures.dfa.1 next.ensures.dfa.0 c.args.text.now c.args.scan known.result
     known.ensures.passes known.ensures.low known.ensures.scanned (before_end known.result.to _ known.ensures.scanned.within c.if-known-text.false)
     next.result (next.ensures.leads _ known.ensures.scanned.at) c.line_end-then-is_dead.result line.low line.high line.part line.newline is).1
 
@@ -116,7 +116,7 @@ returns-then-is_dead-clause-scanned c =
     let is : next.result ≡ dead_number (count_in next.new.self) = eqb-true next.result _ (sym c.is_dead.ensures ∙ c.if-is_dead.true) in
     subst (λ number. HasScanned next.new.self c.args.text.now
     (record { from = known.result.from; to = c.line_end-then-is_dead.result + 1; number = number })) (sym c.start.ensures.number)
-    (over_dead c.args.self.now next.new.self next.ensures.same next.ensures.right c.args.text.now c.args.scan known.result
+    (over_dead c.args.self.now next.new.self next.ensures.dfa.1 next.ensures.dfa.0 c.args.text.now c.args.scan known.result
     known.ensures.passes known.ensures.low known.ensures.scanned (before_end known.result.to _ known.ensures.scanned.within c.if-known-text.false)
     next.result (next.ensures.leads _ known.ensures.scanned.at) c.line_end-then-is_dead.result line.low line.high line.part line.newline is).0
 
@@ -144,7 +144,7 @@ returns-clause-lists c =
     let next = c.next-number in
     let other : next.result ≢ match_number (count_in next.new.self) =
     λ e. false≢true (sym c.if-is_matched.false ∙ c.is_matched.ensures ∙ eq-eqb next.result _ e) in
-    (over_byte c.args.self.now next.new.self next.ensures.same next.ensures.right c.args.text.now c.args.scan known.result
+    (over_byte c.args.self.now next.new.self next.ensures.dfa.1 next.ensures.dfa.0 c.args.text.now c.args.scan known.result
     known.ensures.passes known.ensures.low known.ensures.scanned (before_end known.result.to _ known.ensures.scanned.within c.if-known-text.false)
     next.result (next.ensures.leads _ known.ensures.scanned.at) other).1
 
@@ -154,7 +154,7 @@ returns-clause-scanned c =
     let next = c.next-number in
     let other : next.result ≢ match_number (count_in next.new.self) =
     λ e. false≢true (sym c.if-is_matched.false ∙ c.is_matched.ensures ∙ eq-eqb next.result _ e) in
-    (over_byte c.args.self.now next.new.self next.ensures.same next.ensures.right c.args.text.now c.args.scan known.result
+    (over_byte c.args.self.now next.new.self next.ensures.dfa.1 next.ensures.dfa.0 c.args.text.now c.args.scan known.result
     known.ensures.passes known.ensures.low known.ensures.scanned (before_end known.result.to _ known.ensures.scanned.within c.if-known-text.false)
     next.result (next.ensures.leads _ known.ensures.scanned.at) other).0
 

@@ -13,8 +13,8 @@ use Rattle.cs_match.proofs.dfa.LazyDfa.fill.Goals as goal
 pub load-requires-clause-positions : goal.load-requires-clause-positions
 load-requires-clause-positions c = c.requires.right.room ∙ sym c.requires.right.cached.sized
 
-pub step_over-requires-clause-positions : goal.step_over-requires-clause-positions
-step_over-requires-clause-positions c =
+pub step_over-requires-clause-one_each : goal.step_over-requires-clause-one_each
+step_over-requires-clause-one_each c =
     let s = c.args.self.now in
     ap (λ (n : State). length n.positions) (c.load.ensures (start (tree_in s))) ∙ c.requires.right.cached.positions c.args.slot
 
@@ -33,7 +33,7 @@ put-requires-clause-right c =
       table = c.requires.right.table;
       capacity = c.requires.right.capacity;
       room = ap (λ (n : State). length n.positions) c.step_over.ensures.moved ∙ length-successor (tree_in s) c.load.new.state c.args.byte;
-      memory = c.step_over.ensures.memory;
+      memory = c.step_over.ensures.scratch;
     }
 
 pub put-requires-then-byte-eq10-clause-right : goal.put-requires-then-byte-eq10-clause-right
@@ -46,7 +46,7 @@ put-requires-then-byte-eq10-clause-right c =
       table = c.requires.right.table;
       capacity = c.requires.right.capacity;
       room = ap (λ (n : State). length n.positions) c.step_over.ensures.moved ∙ length-successor (tree_in s) c.load.new.state c.args.byte;
-      memory = c.step_over.ensures.memory;
+      memory = c.step_over.ensures.scratch;
     }
 
 pub next_number-requires-clause-right : goal.next_number-requires-clause-right
@@ -59,7 +59,7 @@ next_number-requires-clause-right c =
       table = c.requires.right.table;
       capacity = c.requires.right.capacity;
       room = ap (λ (n : State). length n.positions) c.step_over.ensures.moved ∙ length-successor (tree_in s) c.load.new.state c.args.byte;
-      memory = c.step_over.ensures.memory;
+      memory = c.step_over.ensures.scratch;
     }
 
 pub accepted-next-requires : goal.accepted-next-requires
@@ -72,7 +72,7 @@ accepted-next-requires c =
       table = c.requires.right.table;
       capacity = c.requires.right.capacity;
       room = ap (λ (n : State). length n.positions) c.step_over.ensures.moved ∙ length-successor (tree_in s) c.load.new.state c.args.byte;
-      memory = c.step_over.ensures.memory;
+      memory = c.step_over.ensures.scratch;
     }
 
 pub put-requires-clause-leads : goal.put-requires-clause-leads
@@ -91,7 +91,7 @@ start-start-requires c =
       table = c.requires.right.table;
       capacity = c.requires.right.capacity;
       room = ap (λ (n : State). length n.positions) c.step_over.ensures.moved ∙ length-successor (tree_in s) c.load.new.state c.args.byte;
-      memory = c.step_over.ensures.memory;
+      memory = c.step_over.ensures.scratch;
     }
 
 pub put-requires-then-byte-eq10-clause-leads : goal.put-requires-then-byte-eq10-clause-leads

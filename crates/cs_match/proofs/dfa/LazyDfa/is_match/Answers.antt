@@ -27,11 +27,11 @@ returns-then-is_matched-clause-found c =
     let given = c.loop-b.invariant in
     let new = c.next-number.new.self in
     let lt : i < length line = omega arith in
-    let some = some_classes (tree_in new) new.states.classes c.next-number.ensures.right.classes in
+    let some = some_classes (tree_in new) new.states.classes c.next-number.ensures.dfa.0.classes in
     let is : c.next-number.result ≡ match_number (count_in new) =
     eqb-true c.next-number.result (match_number (count_in new)) (sym c.is_matched.ensures ∙ c.if-is_matched.true) in
     let accepting = scan_found t (tree_in new) (count_in new) new.states.cached.items c.next-number.result
-    (c.next-number.ensures.same ∙ given.same) some line i (get_or line i 0)
+    (c.next-number.ensures.dfa.1 ∙ given.same) some line i (get_or line i 0)
     (c.next-number.ensures.leads _ given.number) lt refl c.if-b-eq10.false is in
     let f = found_at t line c.requires.right.expanded i (omega arith) accepting in
     (λ _. f, λ _. refl)
@@ -44,14 +44,14 @@ loop-b-preserved c =
     let given = c.loop-b.invariant in
     let new = c.next-number.new.self in
     let lt : i < length line = omega arith in
-    let same = c.next-number.ensures.same ∙ given.same in
-    let some = some_classes (tree_in new) new.states.classes c.next-number.ensures.right.classes in
+    let same = c.next-number.ensures.dfa.1 ∙ given.same in
+    let some = some_classes (tree_in new) new.states.classes c.next-number.ensures.dfa.0.classes in
     let other : c.next-number.result ≢ match_number (count_in new) =
     λ e. false≢true (sym c.if-is_matched.false ∙ c.is_matched.ensures ∙ eq-eqb c.next-number.result (match_number (count_in new)) e) in
     record {
       rises = omega (arith, given.rises, c.next-number.ensures.work.0);
       work = omega (arith, given.work, c.next-number.ensures.work.1, ap byte_work given.same);
-      right = c.next-number.ensures.right;
+      right = c.next-number.ensures.dfa.0;
       same = same;
       number = scan_next t (tree_in new) (count_in new) new.states.cached.items c.next-number.result same some line i
           (get_or line i 0) (c.next-number.ensures.leads _ given.number) lt refl c.if-b-eq10.false other;
@@ -67,9 +67,9 @@ returns-clause-found c =
     let i = c.loop-b.b-index in
     let given = c.loop-b.invariant in
     let new = c.next-last.new.self in
-    let some = some_classes (tree_in new) new.states.classes c.next-last.ensures.right.classes in
+    let some = some_classes (tree_in new) new.states.classes c.next-last.ensures.dfa.0.classes in
     let ends = scan_ends t (tree_in new) (count_in new) new.states.cached.items c.next-last.result
-    (c.next-last.ensures.same ∙ given.same) some line i 10
+    (c.next-last.ensures.dfa.1 ∙ given.same) some line i 10
     (c.next-last.ensures.leads _ given.number) (omega arith) refl in
     found_last t line c.requires.right.expanded _ ends (λ k lt. given.none k (omega arith))
 

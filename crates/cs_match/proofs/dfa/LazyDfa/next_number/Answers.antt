@@ -53,7 +53,7 @@ pub add-requires-then-len-most-clause-block : goal.add-requires-then-len-most-cl
 add-requires-then-len-most-clause-block c =
     let old = c.args.self.now in
     let new = c.empty.new.self in
-    subst (λ (t : Tree). IsBlock (cuts_of t) new.states.scratch.unfinished) (sym c.empty.ensures.same)
+    subst (λ (t : Tree). IsBlock (cuts_of t) new.states.scratch.unfinished) (sym c.empty.ensures.dfa.1)
     (subst (λ (n : State). IsBlock (cuts_of (tree_in old)) n.unfinished) (sym c.empty.ensures.scratch)
     (scratch_block old c.args.slot c.args.byte c.requires.right c.requires.scratch))
 
@@ -81,7 +81,7 @@ returns-then-len-most-clause-leads c =
     let new = c.add-then-len-most.new.self in
     let added = c.add-then-len-most.ensures in
     leads_to (tree_in old) (tree_in new) (count_in new) new.states.cached.items (state_in old c.args.slot) (state_in old c.args.slot)
-    c.empty.new.self.states.scratch c.args.byte c.add-then-len-most.result (added.same ∙ c.empty.ensures.same) refl
+    c.empty.new.self.states.scratch c.args.byte c.add-then-len-most.result (added.dfa.1 ∙ c.empty.ensures.dfa.1) refl
     c.requires.within c.requires.stays (c.empty.ensures.scratch ∙ c.requires.scratch) added.other added.number
 
 pub put-requires-3-clause-slot : goal.put-requires-3-clause-slot
@@ -93,7 +93,7 @@ put-requires-3-clause-leads c =
     let new = c.add-next.new.self in
     let added = c.add-next.ensures in
     leads_to (tree_in old) (tree_in new) (count_in new) new.states.cached.items (state_in old c.args.slot) (state_in new c.args.slot)
-    old.states.scratch c.args.byte c.add-next.result added.same (added.kept c.args.slot c.requires.slot).1
+    old.states.scratch c.args.byte c.add-next.result added.dfa.1 (added.kept c.args.slot c.requires.slot).1
     c.requires.within c.requires.stays c.requires.scratch added.other added.number
 
 pub returns-2-clause-leads : goal.returns-2-clause-leads

@@ -1,6 +1,4 @@
-use Rattle.std.proofs.Common.{◌≤◌, false, inl, inr, length, arith}
-use Rattle.std.proofs.lemmas.Bool.{cases_lt}
-use Rattle.std.proofs.lemmas.List.{get_or_past}
+use Rattle.std.proofs.Common.{◌≤◌, length, arith}
 use Rattle.cs_match.specs.Entered.{if_entered, if_previous, if_kept}
 use Rattle.cs_match.proofs.MaskLemmas.{all_put}
 use Rattle.cs_match.proofs.masks.Mask.fill.Goals as goal
@@ -15,11 +13,4 @@ returns-clause-mask c =
       previous = rw i.input (all_put (if_previous c.args.input) ps c.loop-index.self.previous c.loop-index.index
           i.previous_room all i.previous);
       kept = rw i.input (all_put (if_kept c.args.input) ps c.loop-index.self.kept c.loop-index.index i.kept_room all i.kept);
-      one_mask = λ one k. elim (cases_lt k (length ps)) [
-        | inl lt ↦ i.one_mask one k (omega (arith, lt, all))
-        | inr past ↦ (
-          get_or_past c.loop-index.self.previous k false (omega (arith, past, i.previous_room)),
-          get_or_past c.loop-index.self.kept k false (omega (arith, past, i.kept_room)),
-        )
-      ];
     }

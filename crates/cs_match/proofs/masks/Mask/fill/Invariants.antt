@@ -13,6 +13,4 @@ invariant-loop-index l = record {
   entered : (k : ℕ) → k < l.index → get_or l.self.entered k false ≡ get_or (map (if_entered l.input) l.positions) k false;
   previous : (k : ℕ) → k < l.index → get_or l.self.previous k false ≡ get_or (map (if_previous l.input) l.positions) k false;
   kept : (k : ℕ) → k < l.index → get_or l.self.kept k false ≡ get_or (map (if_kept l.input) l.positions) k false;
-  one_mask : l.self.is_one_mask ≡ true → (k : ℕ) → k < l.index → (get_or l.self.previous k false ≡ false) ×
-      (get_or l.self.kept k false ≡ false);
 }

@@ -31,3 +31,10 @@ returns-then-not-is_of-clause-masks c =
             (c.requires.known k other (omega (arith, h, size)) (subst (λ (m : Mask). m.is_known ≡ true) (get_or-set_other old at k new other else) is))
       ];
     }
+
+pub returns-then-not-is_of-clause-mask : goal.returns-then-not-is_of-clause-mask
+returns-then-not-is_of-clause-mask c = λ other.
+    let old = c.args.self.now.slots.items in
+    let at = c.slot_of-slot.result in
+    subst (λ (m : Mask). IsMask c.args.positions.now m)
+    (sym (get_or-set_same old at c.fill.new.self other (omega (arith, c.slot_of-slot.ensures, c.len.ensures)))) c.fill.ensures.mask

@@ -25,5 +25,5 @@ consistent_with t program same c = record {
 pub returns : goal.returns
 returns c = (
   λ program same. consistent_with c.self.inside.dfa program (same ∙ sym (ap (λ (a : Automaton). a.tree) c.self.view_is)) c.self.invariant.0,
-  c.self.invariant.2,
+  c.self.invariant.1,
 )

@@ -1,20 +1,13 @@
-use Rattle.std.proofs.Common.{◌↔◌, length, take, sym, subst}
-use Rattle.std.specs.Prelude.{IsTrue, IfSome}
-use Rattle.cs_syntax.specs.Matching.{Tree, HasMatch}
-use Rattle.cs_prefilter.specs.WordAt.{IsPrefilterOf}
+use Rattle.std.proofs.Common.{◌↔◌, length, take, subst}
+use Rattle.std.specs.Prelude.{IsTrue}
+use Rattle.cs_syntax.specs.Matching.{HasMatch}
 use Rattle.cs_match.specs.Automaton.{Automaton}
 use Rattle.cs_match.specs.ConsistentDfa.{automaton_of}
 use Rattle.cs_match.specs.Work.{WorksWithin, line_work}
 use Rattle.cs_match.proofs.matcher.Matcher.is_match.Goals as goal
 
 pub invariant_of-self : goal.invariant_of-self
-invariant_of-self c = (
-  c.is_match.ensures.right,
-  subst (λ (t : Tree). IfSome c.self.inside.ways.prefilter (λ prefilter. IsPrefilterOf t prefilter.now)) (sym c.is_match.ensures.same)
-      c.self.invariant.1,
-  c.self.invariant.2,
-  c.self.invariant.3,
-)
+invariant_of-self c = (c.is_match.ensures.dfa.0, c.self.invariant.1, c.self.invariant.2)
 
 pub returns-clause-found : goal.returns-clause-found
 returns-clause-found c =

@@ -18,6 +18,7 @@ pub end-requires : goal.end-requires
 end-requires c = record {
   one_each = ap (λ (n : State). length n.positions) c.loop-b.invariant.here
       ∙ length-state c.args.program.now c.args.line.now c.loop-b.b-index (omega arith);
+  scratch = c.loop-b.invariant.scratch;
 }
 
 pub returns-then-step_in_line-clause-found : goal.returns-then-step_in_line-clause-found

@@ -1,5 +1,12 @@
 use Rattle.cs_match.proofs.SpanLemmas.{ready_length}
 use Rattle.cs_match.proofs.spans.pass.Pass.is_end.Goals as goal
 
-pub is_accepting-accepts-requires : goal.is_accepting-accepts-requires
-is_accepting-accepts-requires c = ready_length _ _ _ _ _ _ _ c.requires
+pub enter-accepts-requires-clause-one_each : goal.enter-accepts-requires-clause-one_each
+enter-accepts-requires-clause-one_each c = ready_length _ _ _ _ _ _ _ c.requires
+
+pub returns-clause-at : goal.returns-clause-at
+returns-clause-at c = record {
+  positions = c.requires.positions;
+  unfinished = c.requires.unfinished;
+  scratch = c.enter-accepts.ensures.scratch;
+}

@@ -12,7 +12,7 @@ use Rattle.cs_match.proofs.ChunkLemmas.{work-more}
 use Rattle.cs_match.proofs.ListEndLemmas.{listed_found, few_found, whole_found, stops_found, listed_other, few_other, slice_same, rest_same, AreListed-part}
 use Rattle.cs_match.proofs.MatchingEndLemmas.{ends-none}
 use Rattle.cs_match.proofs.DfaScanLemmas.{scanned_none}
-use Rattle.cs_match.proofs.dfa.LazyDfaOneLane.list_ends.Goals as goal
+use Rattle.cs_match.proofs.dfa.LazyDfa.list_ends.Goals as goal
 
 pub scan-init : goal.scan-init
 scan-init c =
@@ -54,8 +54,8 @@ scan-preserved-then-scan-eq-FOUND c =
     let room = c.if-count-ends.true in
     record {
       from = lists.from ∙ i.from;
-      right = e.right;
-      same = e.same ∙ i.same;
+      right = e.dfa.0;
+      same = e.dfa.1 ∙ i.same;
       scanned = e.scanned;
       listed = listed_found t text old new lists i.scanned.low e.scanned.within c.scan.count c.scan.ends i.few i.listed found room;
       few = few_found t text old new lists i.scanned.low e.scanned.within c.scan.count c.scan.ends i.few i.listed found room;
@@ -87,8 +87,8 @@ scan-preserved c =
     let other = c.if-scan-eq-FOUND.false in
     record {
       from = lists.from ∙ i.from;
-      right = e.right;
-      same = e.same ∙ i.same;
+      right = e.dfa.0;
+      same = e.dfa.1 ∙ i.same;
       scanned = e.scanned;
       listed = listed_other t text old new lists i.scanned.low e.scanned.within c.scan.count c.scan.ends i.few i.listed other;
       few = few_other t text old new lists i.scanned.low e.scanned.within c.scan.count c.scan.ends i.few i.listed other;

@@ -1,7 +1,7 @@
 use Rattle.std.proofs.Common.{arith}
 use Rattle.cs_match.proofs.NewlineLemmas.{next_none, next_some}
 use Rattle.cs_match.proofs.WholeLineLemmas.{whole_has_newline}
-use Rattle.cs_match.proofs.lines.line_end.Goals as goal
+use Rattle.cs_match.proofs.skipping.line_end.Goals as goal
 
 pub returns : goal.returns
 returns c =

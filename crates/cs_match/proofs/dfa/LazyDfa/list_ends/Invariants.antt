@@ -7,7 +7,7 @@ use Rattle.cs_match.specs.MatchingEnds.{matching_ends, newlines_between}
 use Rattle.cs_match.specs.Scanned.{HasScanned}
 use Rattle.cs_match.specs.Skipping.{AreWholeLines}
 use Rattle.cs_match.specs.Work.{byte_work}
-use Rattle.cs_match.proofs.dfa.LazyDfaOneLane.list_ends.Given as goal
+use Rattle.cs_match.proofs.dfa.LazyDfa.list_ends.Given as goal
 
 abbrev pub invariant-scan : goal.invariant-scan
 invariant-scan l = record {

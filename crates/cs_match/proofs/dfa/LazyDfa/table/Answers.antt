@@ -7,7 +7,7 @@ use Rattle.cs_match.specs.Table as table
 use Rattle.cs_match.specs.Table.{next_number, number_after}
 use Rattle.cs_match.proofs.KnownScanLemmas.{number_after-same}
 use Rattle.cs_match.proofs.TableLemmas.{has_rows, stands_row, stands_next, stands_unknown, tells_lines}
-use Rattle.cs_match.proofs.dfa.LazyDfaOneLane.table.Goals as goal
+use Rattle.cs_match.proofs.dfa.LazyDfa.table.Goals as goal
 
 same_next : (s : LazyDfa) (r : Table) → r.transitions.now ≡ s.states.transitions.items → r.of.now ≡ s.states.classes.of → (number b : ℕ) →
     next_number r number b ≡ next_number (table_in s) number b
@@ -38,7 +38,7 @@ pub returns-clause-states : goal.returns-clause-states
 returns-clause-states c = states_of c.args.self.now _ c.requires c.deref.ensures.value refl refl
 
 known_of : (s : LazyDfa) (r : Table) → r.transitions.now ≡ s.states.transitions.items → r.of.now ≡ s.states.classes.of →
-    r.count ≡ s.states.classes.count → (lines : List ℕ) → number_after r (table.start r) lines ≢ table.unknown r →
+    r.count ≡ s.states.classes.count → (lines : List ℕ) → number_after r (table.table_start r) lines ≢ table.unknown r →
     IsKnown s (start_number (count_in s)) lines
 known_of s r transitions of count lines other e = other (ap (λ k. number_after r (4 * k) lines) count
     ∙ number_after-same r (table_in s) (same_next s r transitions of) (4 * count_in s) lines ∙ e ∙ sym count)

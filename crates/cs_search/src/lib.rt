@@ -28,6 +28,7 @@ mod grepped;
 mod input;
 pub mod laws;
 mod line_search;
+mod name_block;
 mod name_filter;
 mod plan;
 mod printer;

@@ -90,6 +90,7 @@ run-tests: pages
 	tests/runs/changing.py $(program)
 	tests/runs/failing.py $(program)
 	tests/runs/streams.py $(program)
+	tests/runs/progress.py $(program)
 
 wrong mutants:
 	scripts/mutants.py $(CRATES)

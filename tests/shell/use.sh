@@ -108,6 +108,10 @@ gives 2 'csearch --help'
 holds "cindex -reset src many.c -logskip 2>&1 | grep -q -- '-logskip: no such file' && cindex -list | grep -q -- '-logskip'"
 rm many.c && cindex -reset src
 
+# ---- a cold disk ----------------------------------------------------------------------------------------------------------
+blocks ahead > "$fresh/ahead"
+holds "CSEARCHINDEX=\$HOME/ahead.index; export CSEARCHINDEX; . '$fresh/ahead'; wait; [ \$(csearch -n marker | wc -l) = 6 ]"
+
 # ---- a hook ---------------------------------------------------------------------------------------------------------------
 if command -v git > /dev/null; then
     git init -q project

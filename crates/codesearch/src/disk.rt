@@ -1,6 +1,7 @@
 // The real surroundings of the program: the index file, the disk and the standard streams.
 
 use crate::call::Call;
+use crate::progress::{ClearedSink, CountedTree, ProgressLine};
 use crate::running::World;
 use cs_args::Tool;
 use cs_storage::{DiskFolder, IndexPaths};
@@ -19,22 +20,29 @@ const OUTPUT_BYTES: usize = 65536;
 const OUTPUT: &str = "/proc/self/fd/1";
 
 /// The disk and the standard streams.
-pub(crate) type DiskWorld = World<
-    DiskTree<HostRuntime>,
+pub(crate) type DiskWorld<'p> = World<
+    CountedTree<'p, DiskTree<HostRuntime>>,
     StdSource<Stdin>,
     BufferedSink<StdSink<Stdout>>,
-    StdSink<Stderr>,
+    ClearedSink<'p, StdSink<Stderr>>,
 >;
 
-/// The disk and the standard streams, as the tool uses them.
-pub(crate) fn disk_world(rt: &HostRuntime, call: &Call<'_>) -> Result<DiskWorld, AllocError> {
-    let tree = tree_for(rt, call)?;
+/// The disk and the standard streams, as the tool uses them. What is read is counted.
+pub(crate) fn disk_world<'p>(
+    rt: &HostRuntime,
+    call: &Call<'_>,
+    progress: &'p ProgressLine<'p>,
+) -> Result<DiskWorld<'p>, AllocError> {
+    let inner = tree_for(rt, call)?;
     Ok(World {
         alloc: rt.alloc(),
-        tree,
+        tree: CountedTree { inner, progress },
         input: StdSource::new(rt.stdin()),
         out: buffered_output(rt)?,
-        err: StdSink::new(rt.stderr()),
+        err: ClearedSink {
+            inner: StdSink::new(rt.stderr()),
+            progress,
+        },
     })
 }
 

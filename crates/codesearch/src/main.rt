@@ -27,6 +27,7 @@ mod execution;
 mod given;
 mod laws;
 mod outcome;
+mod progress;
 mod running;
 mod streams;
 
@@ -39,6 +40,7 @@ use disk::{DiskIndexFile, SettingFolders, buffered_output, disk_world, is_output
 use execution::{execute, execute_cgrep};
 use given::Given;
 use outcome::{Outcome, ProgramFault};
+use progress::ProgressLine;
 use running::FoundFile;
 use std::alloc::AllocError;
 use std::env;
@@ -94,7 +96,8 @@ fn current_folder(rt: &HostRuntime) -> Result<Option<String>, AllocError> {
 fn execute_on_disk(rt: &HostRuntime, call: &Call<'_>) -> Result<u8, AllocError>
     requires { IsCall call.now }
 {
-    let mut world = disk_world(rt, call)?;
+    let progress = ProgressLine::new(rt, call.tool == Tool::Cindex);
+    let mut world = disk_world(rt, call, &progress)?;
     if call.tool == Tool::Cgrep {
         let outcome = execute_cgrep(call, &mut world);
         return Ok(end(rt, &mut world.out, &outcome));
@@ -106,6 +109,7 @@ fn execute_on_disk(rt: &HostRuntime, call: &Call<'_>) -> Result<u8, AllocError>
         index: None,
     };
     let outcome = execute(call, &mut disk.folder, &mut file, &mut world);
+    progress.erase();
     Ok(end(rt, &mut world.out, &outcome))
 }
 

@@ -17,6 +17,7 @@ mod InputReportLemmas
 mod SearchExamples
 mod SearchLemmas
 mod SelectionLemmas
+mod NameBlockLemmas
 mod LineTestLemmas
 mod PrintLemmas
 mod WorkLemmas

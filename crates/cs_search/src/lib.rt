@@ -12,9 +12,10 @@
 //! the pattern, searches its inputs, and adds the fault lines and the status. `csearch_stored`
 //! compiles the job to a plan (a query and two programs), reads the names of the candidates in the
 //! order of their ids, keeps in memory those that `-f` selects, and then searches these files, with
-//! one matcher and one buffer. `csearch` is the same over a store in memory. The soundness of the
-//! query alone proves that a file that is not a candidate has no matching line (`laws`,
-//! `skipped_files_have_no_match`).
+//! one matcher and one buffer. The names are tested for `-f` as the lines of a block, 1024 at once,
+//! except where one of these has a newline. `csearch` is the same over a store in memory. The
+//! soundness of the query alone proves that a file that is not a candidate has no matching line
+//! (`laws`, `skipped_files_have_no_match`).
 //!
 //! Newlines are counted only under `-n`, by vectors of byte sums, since counting takes a tenth of
 //! the time of the fastest search. Without `-n` the private contracts of a search say of the number
@@ -28,6 +29,7 @@ mod grepped;
 mod input;
 pub mod laws;
 mod line_search;
+mod name_block;
 mod name_filter;
 mod plan;
 mod printer;

@@ -38,7 +38,7 @@ fn file_fault(error: PatternError) -> ToolFault
 /// Decides which names `-f` keeps: all of them without `-f`.
 #[derive(Drop)]
 pub(crate) struct NameFilter<'p> {
-    matcher: Option<Matcher<'p>>,
+    pub(crate) matcher: Option<Matcher<'p>>,
 }
 
 impl<'p> NameFilter<'p> {

@@ -6,14 +6,19 @@ ghost use Rattle.cs_tree.specs.KeepsStore.{KeepsStore};
 ghost use Rattle.cs_index.specs.OpenedParts.{Parts};
 ghost use Rattle.cs_index.specs.Stored.{StandsIn};
 ghost use Rattle.cs_search.specs.IndexSearch.{AreKept};
-ghost use Rattle.cs_search.specs.Selections.{HasSelected, Selects};
+ghost use Rattle.cs_search.specs.Selections.{HasSelected, Selects, SelectsMore};
 
+use crate::name_block::{push_matching, read_block};
 use crate::name_filter::NameFilter;
 use crate::plan::Plan;
+use crate::tally::newlines;
 use cs_index::{IndexFault, NameReader, StoredIndex};
 use cs_match::Program;
 use cs_tree::{IoFault, Store};
 use std::alloc::{AllocError, Global};
+
+/// The most names that are tested at once.
+const PART: usize = 1024;
 
 /// The names that were read and that `-f` keeps.
 pub(crate) struct Selection<'p> {
@@ -92,16 +97,61 @@ impl<'p> Selection<'p> {
         })
     }
 
-    /// Reads the names with these ids.
+    /// Reads the names with these ids, and keeps those that the filter keeps.
     fn read_all<S: Store>(
         &mut self,
         alloc: Global,
         store: &mut S,
         ids: &[u32],
     ) -> Result<Result<(), IndexFault>, IoFault>
-        ensures read { (bytes : List ℕ) (parts : Parts) → S.model store.old ≡ Some bytes →
-            HasSelected bytes parts [] self.old → All (λ id. id < length parts.names) ids.now →
-            IfOk result (λ answer. IsOkAnd answer (λ _. HasSelected bytes parts ids.now self.new)) }
+        ensures read { SelectsMore (S.model store.old) ids.now self.old self.new result }
+        ensures same { matcher_tree self.new.filter.matcher ≡ matcher_tree self.old.filter.matcher }
+        ensures store { KeepsStore S.model S.size S.failed store.old store.new result }
+    {
+        let mut from = 0;
+        'parts: while from < ids.len() {
+            let to = ids.len().min(from + PART);
+            if let Err(fault) = self.read_part(alloc, store, &ids[from..to])? {
+                return Ok(Err(fault));
+            }
+            from = to;
+        }
+        Ok(Ok(()))
+    }
+
+    /// The same. With `-f` the names are tested as the lines of a block, unless one has a newline.
+    fn read_part<S: Store>(
+        &mut self,
+        alloc: Global,
+        store: &mut S,
+        ids: &[u32],
+    ) -> Result<Result<(), IndexFault>, IoFault>
+        ensures read { SelectsMore (S.model store.old) ids.now self.old self.new result }
+        ensures same { matcher_tree self.new.filter.matcher ≡ matcher_tree self.old.filter.matcher }
+        ensures store { KeepsStore S.model S.size S.failed store.old store.new result }
+    {
+        let Some(matcher) = &mut self.filter.matcher else {
+            return self.read_each(alloc, store, ids);
+        };
+        let block = match read_block(&mut self.reader, alloc, store, ids)? {
+            Ok(block) => block,
+            Err(fault) => return Ok(Err(fault)),
+        };
+        if newlines(&block, matcher) != ids.len() as u64 {
+            return self.read_each(alloc, store, ids);
+        }
+        let answer = push_matching(alloc, matcher, &block, &mut self.names)?;
+        Ok(answer)
+    }
+
+    /// The same, one name after another.
+    fn read_each<S: Store>(
+        &mut self,
+        alloc: Global,
+        store: &mut S,
+        ids: &[u32],
+    ) -> Result<Result<(), IndexFault>, IoFault>
+        ensures read { SelectsMore (S.model store.old) ids.now self.old self.new result }
         ensures same { matcher_tree self.new.filter.matcher ≡ matcher_tree self.old.filter.matcher }
         ensures store { KeepsStore S.model S.size S.failed store.old store.new result }
     {

@@ -2,7 +2,7 @@
 use Rattle.std.proofs.Common.{◌≡◌, ℕ, zero, suc, ◌+◌, ◌-◌, ◌≤◌, List, [], ◌∷◌, ◌++◌, length, take, drop, refl, sym, ap, subst, ◌∙◌, inl, inr, arith, append_assoc, length-append, length-drop, length-take, Result, Ok, Err}
 use Rattle.std.proofs.lemmas.Bool.{cases_lt}
 use Rattle.std.specs.Prelude.{OnOk}
-use Rattle.std.proofs.lemmas.List.{drop-drop, drop-take, drop_all, take_at, take-take}
+use Rattle.std.proofs.lemmas.List.{drop-drop, drop-take, drop_all, take_all, take_at, take-take}
 use Rattle.cs_tree.specs.Store.{part_of}
 use Rattle.cs_index.specs.StoredLists.{Holds, ListState, state_of}
 use Rattle.cs_index.specs.declared.reading.stored_list.StoredList.TheInside.{Inside}
@@ -27,6 +27,13 @@ part_after bytes piece at k within is =
     let l : length (drop k piece) ≡ length piece - k = length-drop k piece in
     ap (drop k) (is ∙ ap (part_of bytes at) whole) ∙ drop-take k (length piece - k) (drop at bytes)
     ∙ ap (take (length piece - k)) (drop-drop k at bytes) ∙ ap (part_of bytes (at + k)) (sym l)
+
+-- and so do its first bytes
+pub stand_first : (bytes piece : List ℕ) (at most : ℕ) → StandAt bytes at piece → StandAt bytes at (take most piece)
+stand_first bytes piece at most is = elim (cases_lt (length piece) most) [
+  | inl less ↦ subst (StandAt bytes at) (sym (take_all most piece (omega (arith, less)))) is
+  | inr more ↦ stand bytes (take most piece) at most (ap (take most) is ∙ take-take most (length piece) (drop at bytes) more)
+]
 
 -- and the first bytes of a part
 pub stand_prefix : (bytes piece more : List ℕ) (at m : ℕ) → part_of bytes at m ≡ piece ++ more → StandAt bytes at piece

@@ -2,7 +2,7 @@
 ghost use Rattle.std.specs.Prelude.{◌≡◌, ◌≤◌, ◌<◌, ◌^◌, ◌+◌, ◌-◌, ℕ, List, [], true, false, Some, drop, length, take, IfOk, OnOk};
 ghost use Rattle.cs_tree.specs.KeepsStore.{KeepsStore};
 ghost use Rattle.cs_tree.specs.Store.{part_of};
-ghost use Rattle.cs_index.specs.Windows.{HasFrom, IsPiece};
+ghost use Rattle.cs_index.specs.Windows.{HasFrom, IsPiece, StandAt};
 ghost use Rattle.cs_index.specs.SectionPieces.{IsWindow};
 
 use cs_tree::{IoFault, Store, fill_at};
@@ -46,8 +46,8 @@ impl Window {
             OnOk result (self.new.piece.items ≡ part_of bytes at len) }
         ensures store { KeepsStore S.model S.size S.failed store.old store.new result }
     {
-        self.keep(at, len);
-        let kept = self.piece.len();
+        let kept = self.keep(at, len);
+        // (What is in memory after these bytes is read over, and is not cleared before.)
         self.piece.resize(len, 0)?;
         let n = fill_at(store, &mut self.piece.as_mut_slice()[kept..], at + kept)?;
         self.piece.truncate(kept + n);
@@ -81,20 +81,23 @@ impl Window {
         self.read(store, at, most)
     }
 
-    /// Goes to an offset, and keeps the first `most` of its bytes from there on.
-    fn keep(&mut self, at: usize, most: usize)
+    /// Goes to an offset, and moves the first `most` of its bytes from there on to the start of the
+    /// piece, whose length stays. Returns their number.
+    fn keep(&mut self, at: usize, most: usize) -> usize
         ensures start { self.new.start ≡ at }
-        ensures bound { length self.new.piece.items ≤ most }
-        ensures piece { (bytes : List ℕ) → HasFrom bytes self.old at → IsPiece bytes self.new }
+        ensures few { result ≤ most }
+        ensures within { result ≤ length self.new.piece.items }
+        ensures piece { (bytes : List ℕ) → HasFrom bytes self.old at →
+            StandAt bytes at (take result self.new.piece.items) }
     {
-        if at < self.start {
-            self.piece.clear();
-        } else {
-            let passed = (at - self.start).min(self.piece.len());
-            remove_prefix(&mut self.piece, passed);
-            self.piece.truncate(most);
-        }
+        let start = self.start;
         self.start = at;
+        if at < start || at - start >= self.piece.len() {
+            return 0;
+        }
+        let kept = (self.piece.len() - (at - start)).min(most);
+        move_down(&mut self.piece, at - start, kept);
+        kept
     }
 
     /// Passes `used` bytes of a section that ends at `stop`, and reads the next piece. It begins
@@ -127,12 +130,11 @@ impl Window {
     }
 }
 
-/// Removes the first `n` bytes.
-fn remove_prefix(bytes: &mut Vec<u8>, n: usize)
-    requires { n ≤ length bytes.old.items }
-    ensures { bytes.new.items ≡ drop n bytes.old.items }
+/// Moves the `n` bytes from an offset on to the start.
+fn move_down(bytes: &mut Vec<u8>, from: usize, n: usize)
+    requires { from + n ≤ length bytes.old.items }
+    ensures items { take n bytes.new.items ≡ take n (drop from bytes.old.items) }
+    ensures len { length bytes.new.items ≡ length bytes.old.items }
 {
-    let len = bytes.len();
-    bytes.as_mut_slice().copy_within(n..len, 0);
-    bytes.truncate(len - n);
+    bytes.as_mut_slice().copy_within(from..from + n, 0);
 }

@@ -11,3 +11,4 @@ pub mod StoredEntries
 pub mod TextRuns
 pub mod NulRuns
 pub mod StoredTables
+pub mod Windows

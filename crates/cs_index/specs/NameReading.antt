@@ -7,7 +7,7 @@ use Rattle.cs_index.specs.declared.reading.name_reader.NameReader.{NameReader}
 use Rattle.cs_index.specs.OpenedParts.{Parts}
 use Rattle.cs_index.specs.Opening.{is_name_index, is_names_section, texts_of}
 use Rattle.cs_index.specs.declared.fault.IndexFault.{IndexFault}
-use Rattle.cs_index.specs.Pieces.{HasText, IsPiece}
+use Rattle.cs_index.specs.Windows.{HasText, IsPiece}
 
 abbrev pub name_section : List ℕ → NameReader → List ℕ
 name_section bytes reader = part_of bytes reader.start (reader.end - reader.start)

@@ -5,7 +5,7 @@ use Rattle.std.specs.declared.alloc.Global.{Global}
 use Rattle.cs_tree.specs.Store.{part_of}
 use Rattle.cs_index.specs.declared.reading.bytes.TextRun.{TextRun}
 use Rattle.cs_index.specs.declared.reading.stored_sections.NameTest.{NameTest}
-use Rattle.cs_index.specs.declared.reading.section_window.Window.{Window}
+use Rattle.cs_index.specs.declared.reading.window.Window.{Window}
 use Rattle.cs_index.specs.Encoding.{ListEntry}
 use Rattle.cs_index.specs.Decoding.{AreStrings}
 use Rattle.cs_index.specs.Opening.{is_entry, is_name_index, is_names_section, is_section, texts_of}
@@ -30,14 +30,14 @@ abbrev pub are_entries : ℕ → ℕ → List ListEntry → Bool
 are_entries room least [] = true
 are_entries room least (e ∷ es) = nat_le least e.trigram && (is_entry room e && are_entries room (e.trigram + 1) es)
 
--- The window lies within its section.
-pub record IsWindow (w : Window) : Type 0 where
-  pub within : w.start + length w.piece.items ≤ w.stop
-  pub short : w.stop < 2 ^ 32
+-- The window lies within a section that ends at `stop`.
+pub record IsWindow (w : Window) (stop : ℕ) : Type 0 where
+  pub within : w.start + length w.piece.items ≤ stop
+  pub short : stop < 2 ^ 32
 
 -- the bytes of the section from an offset of the window on
-abbrev pub left_from : List ℕ → Window → ℕ → List ℕ
-left_from bytes w used = part_of bytes (w.start + used) (w.stop - (w.start + used))
+abbrev pub left_from : List ℕ → ℕ → Window → ℕ → List ℕ
+left_from bytes stop w used = part_of bytes (w.start + used) (stop - (w.start + used))
 
 -- the section is valid and these are its bytes, or it is not valid
 abbrev pub ArePathsRead : List ℕ → Option (Vec ℕ Global) → Type 0

@@ -62,8 +62,8 @@ SkipsBelow bytes end list rest =
 -- the state that the fields of a list are
 abbrev pub state_of : Inside → ListState
 state_of s = record {
-  piece = drop s.used s.piece.items;
-  at = s.start + s.used;
+  piece = drop s.used s.window.piece.items;
+  at = s.window.start + s.used;
   stop = s.stop;
   left = s.decoder.left;
   next = s.decoder.next;
@@ -74,8 +74,8 @@ state_of s = record {
 
 -- The offsets, the ids and the piece of a list are within their bounds.
 pub record IsStoredList (s : Inside) : Type 0 where
-  pub used_within : s.used ≤ length s.piece.items
-  pub within : s.start + length s.piece.items ≤ s.stop
+  pub used_within : s.used ≤ length s.window.piece.items
+  pub within : s.window.start + length s.window.piece.items ≤ s.stop
   pub short : s.stop < 2 ^ 63
   pub room : 5 ≤ s.size
   pub ids : s.decoder.next ≤ s.decoder.name_count

@@ -1,7 +1,7 @@
 -- Posting lists that are read one after the other through one buffer.
 use Rattle.std.proofs.Common.{◌≡◌, ℕ, zero, suc, ◌+◌, ◌-◌, ◌*◌, ◌≤◌, ◌^◌, true, false, cond, ◌&&◌, ltb, List, [], ◌∷◌, ◌++◌, length, take, drop, Option, Some, None, Result, Ok, Err, refl, sym, ap, subst, ◌∙◌, ◌⊎◌, inl, inr, arith, length-drop, slice_get}
 use Rattle.std.proofs.lemmas.Bool.{cases_Bool}
-use Rattle.std.proofs.lemmas.List.{append-nil, drop-drop, drop-take}
+use Rattle.std.proofs.lemmas.List.{append-nil, drop-drop}
 use Rattle.std.specs.Prelude.{option_and_then, option_map, IfSome, OnOk, bytes_eq}
 use Rattle.cs_tree.specs.Store.{part_of}
 use Rattle.cs_index.specs.Encoding.{ListEntry, three_bytes}
@@ -13,8 +13,9 @@ use Rattle.cs_index.specs.StoredOpening.{AreAscendingOffsets}
 use Rattle.cs_index.specs.StoredTables.{TableParts, TablesIn}
 use Rattle.cs_index.specs.declared.reading.stored_entries.Entry.{Entry}
 use Rattle.cs_index.proofs.encoding.VarintRoundtrip.{after_delta, below_limit, is_zero}
-use Rattle.cs_index.proofs.stored.ListPieces.{grow, holds_after, open_damaged, open_read, part_split, read_ready}
+use Rattle.cs_index.proofs.stored.ListPieces.{grow, holds_after, open_damaged, open_read, read_ready}
 use Rattle.cs_index.proofs.stored.ListSections.{stored_lists}
+use Rattle.cs_index.proofs.stored.Windows.{part_after}
 
 -- ---- ids that are read from enough bytes
 
@@ -130,32 +131,6 @@ list_read bytes tables parts stands order entry position found fits buffer is at
     only is = cc
 
 -- ---- bytes that stay in the buffer
-
--- later bytes of a part
-pub part_after : (bytes piece : List ℕ) (at k : ℕ) → k ≤ length piece → piece ≡ part_of bytes at (length piece) →
-    drop k piece ≡ part_of bytes (at + k) (length (drop k piece))
-part_after bytes piece at k within is =
-    let whole : length piece ≡ k + (length piece - k) = omega (arith, within) in
-    let l : length (drop k piece) ≡ length piece - k = length-drop k piece in
-    ap (drop k) (is ∙ ap (part_of bytes at) whole) ∙ drop-take k (length piece - k) (drop at bytes)
-    ∙ ap (take (length piece - k)) (drop-drop k at bytes) ∙ ap (part_of bytes (at + k)) (sym l)
-
--- bytes that are read after a part
-pub part_joined : (bytes piece read : List ℕ) (at end n : ℕ) → end ≡ at + length piece → piece
-    ≡ part_of bytes at (length piece) → read ≡ part_of bytes end n → piece ++ read
-    ≡ part_of bytes at (length (piece ++ read))
-part_joined bytes piece read at end n there is after =
-    let m : ℕ = length piece + n in
-    let whole : part_of bytes at m ≡ piece ++ read =
-    part_split bytes at (length piece) m (omega arith)
-    ∙ (λ i. sym is i ++ part_of bytes (sym there i) ((let z : m - length piece ≡ n = omega arith in z) i))
-    ∙ ap (λ r. piece ++ r) (sym after) in
-    sym whole ∙ cut (drop at bytes) m ∙ ap (λ p. part_of bytes at (length p)) whole
-  where
-    cut : (xs : List ℕ) (k : ℕ) → take k xs ≡ take (length (take k xs)) xs
-    cut xs zero = refl
-    cut [] (suc k) = refl
-    cut (x ∷ xs) (suc k) = ap (λ ys. x ∷ ys) (cut xs k)
 
 -- the buffer begins at a later offset
 pub buffer_moved : (bytes items : List ℕ) (start used at : ℕ) → start + used ≤ at → at ≤ start + length items → used ≤ length items

@@ -134,13 +134,13 @@ going_on bytes s rest going is =
     ∙ ap (ids_ahead s.decoder) is
 
 module _ (bytes : List ℕ) (s : Inside) (going : s.has_ended ≡ false) (ready : IsReady bytes (state_of s)) where
-  ended_left : (whole : Bool) → IsStep s.decoder (drop s.used s.piece.items) (End whole) → ids_left bytes (state_of s)
+  ended_left : (whole : Bool) → IsStep s.decoder (drop s.used s.window.piece.items) (End whole) → ids_left bytes (state_of s)
       ≡ record { ids = []; whole = whole }
-  ended_left whole step = going_on bytes s (drop s.used s.piece.items ++ ready.0) going ready.1 ∙ step ready.0 ready.2
+  ended_left whole step = going_on bytes s (drop s.used s.window.piece.items ++ ready.0) going ready.1 ∙ step ready.0 ready.2
 
-  next_left : (id len : ℕ) → IsNextId s.decoder (drop s.used s.piece.items) id len → ids_left bytes (state_of s)
-      ≡ onto id (ids_ahead (after_id s.decoder id) (drop len (drop s.used s.piece.items) ++ ready.0))
-  next_left id len step = going_on bytes s (drop s.used s.piece.items ++ ready.0) going ready.1 ∙ step.ids ready.0 ready.2
+  next_left : (id len : ℕ) → IsNextId s.decoder (drop s.used s.window.piece.items) id len → ids_left bytes (state_of s)
+      ≡ onto id (ids_ahead (after_id s.decoder id) (drop len (drop s.used s.window.piece.items) ++ ready.0))
+  next_left id len step = going_on bytes s (drop s.used s.window.piece.items ++ ready.0) going ready.1 ∙ step.ids ready.0 ready.2
 
 -- ---- the bytes that are decoded
 
@@ -155,7 +155,7 @@ step_there d used items now step is found = subst (λ (p : List ℕ). IsStep d p
 
 -- the list as it is inside, which ends without an id
 pub ends : (bytes : List ℕ) (end : ℕ) (whole : Bool) (s : Inside) (now : ListState) → state_of s ≡ now →
-    s.has_ended ≡ false → IsStep s.decoder (drop s.used s.piece.items) (End whole) → IsReady bytes now
+    s.has_ended ≡ false → IsStep s.decoder (drop s.used s.window.piece.items) (End whole) → IsReady bytes now
     → GivesBelow bytes end now (state_of (record s { has_ended = true; is_whole = whole })) None
 ends bytes end whole s now is going step ready =
     subst (λ (n : ListState). IsReady bytes n →
@@ -166,7 +166,7 @@ ends bytes end whole s now is going step ready =
 
 -- the next id is not below the end
 pub stays : (bytes : List ℕ) (end id len : ℕ) (s : Inside) (now : ListState) → state_of s ≡ now → s.has_ended ≡ false →
-    IsNextId s.decoder (drop s.used s.piece.items) id len → end ≤ id → IsReady bytes now → GivesBelow bytes end now now None
+    IsNextId s.decoder (drop s.used s.window.piece.items) id len → end ≤ id → IsReady bytes now → GivesBelow bytes end now now None
 stays bytes end id len s now is going step past ready =
     subst (λ (n : ListState). IsReady bytes n → GivesBelow bytes end n n None) is
     (λ r. (
@@ -184,19 +184,19 @@ left_after bytes at stop len within =
     ∙ ap (take (stop - (at + len))) (drop-drop len at bytes))
 
 -- the same in the section
-bytes_after : (bytes more : List ℕ) (s : Inside) (len : ℕ) → IsStoredList s → len ≤ length (drop s.used s.piece.items) →
-    bytes_left bytes (state_of s) ≡ drop s.used s.piece.items ++ more →
-    part_of bytes (s.start + (s.used + len)) (s.stop - (s.start + (s.used + len))) ≡ drop (s.used + len) s.piece.items ++ more
+bytes_after : (bytes more : List ℕ) (s : Inside) (len : ℕ) → IsStoredList s → len ≤ length (drop s.used s.window.piece.items) →
+    bytes_left bytes (state_of s) ≡ drop s.used s.window.piece.items ++ more →
+    part_of bytes (s.window.start + (s.used + len)) (s.stop - (s.window.start + (s.used + len))) ≡ drop (s.used + len) s.window.piece.items ++ more
 bytes_after bytes more s len inv inside is =
-    let l = length-drop s.used s.piece.items in
-    ap (λ at. take (s.stop - at) (drop at bytes)) (let z : s.start + (s.used + len) ≡ s.start + s.used + len = omega arith in z)
-    ∙ left_after bytes (s.start + s.used) s.stop len (omega (arith, l, inside, inv.used_within, inv.within))
-    ∙ ap (drop len) is ∙ drop-append-le len (drop s.used s.piece.items) more inside
-    ∙ ap (λ p. p ++ more) (drop-drop len s.used s.piece.items)
+    let l = length-drop s.used s.window.piece.items in
+    ap (λ at. take (s.stop - at) (drop at bytes)) (let z : s.window.start + (s.used + len) ≡ s.window.start + s.used + len = omega arith in z)
+    ∙ left_after bytes (s.window.start + s.used) s.stop len (omega (arith, l, inside, inv.used_within, inv.within))
+    ∙ ap (drop len) is ∙ drop-append-le len (drop s.used s.window.piece.items) more inside
+    ∙ ap (λ p. p ++ more) (drop-drop len s.used s.window.piece.items)
 
 -- the next id is taken
 pub takes : (bytes : List ℕ) (end id len : ℕ) (s : Inside) (now : ListState) → state_of s ≡ now → s.has_ended ≡ false →
-    IsStoredList s → IsNextId s.decoder (drop s.used s.piece.items) id len → id < end → IsReady bytes now
+    IsStoredList s → IsNextId s.decoder (drop s.used s.window.piece.items) id len → id < end → IsReady bytes now
     → GivesBelow bytes end now (state_of (moved s len (s.decoder.left - 1) (id + 1))) (Some id)
 takes bytes end id len s now is going inv step less ready =
     let rest : Inside = moved s len (s.decoder.left - 1) (id + 1) in
@@ -205,8 +205,8 @@ takes bytes end id len s now is going inv step less ready =
     let after = bytes_after bytes r.0 s len inv step.within r.1 in (
       (r.0, after),
       next_left bytes s going r id len step
-          ∙ ap (λ p. onto id (ids_ahead (after_id s.decoder id) (p ++ r.0))) (drop-drop len s.used s.piece.items)
-          ∙ ap (onto id) (sym (going_on bytes rest (drop (s.used + len) s.piece.items ++ r.0) going after)),
+          ∙ ap (λ p. onto id (ids_ahead (after_id s.decoder id) (p ++ r.0))) (drop-drop len s.used s.window.piece.items)
+          ∙ ap (onto id) (sym (going_on bytes rest (drop (s.used + len) s.window.piece.items ++ r.0) going after)),
       less,
     )) ready
 
@@ -225,7 +225,7 @@ ids_skipped bytes end ids list rest t = (t.holds, ids, t.left, t.below)
 
 -- ids of the piece are taken
 pub run_taken : (bytes : List ℕ) (end len : ℕ) (ids more : List ℕ) (s : Inside) (now : ListState) → state_of s ≡ now →
-    s.has_ended ≡ false → IsStoredList s → drop s.used s.piece.items ≡ stream_of ids ++ more → len ≡ length (stream_of ids)
+    s.has_ended ≡ false → IsStoredList s → drop s.used s.window.piece.items ≡ stream_of ids ++ more → len ≡ length (stream_of ids)
     → AscendWithin max_ids 0 ids → length ids ≤ s.decoder.left → s.decoder.next + next_after 0 ids ≤ s.decoder.name_count →
     next_after 0 ids ≤ end - s.decoder.next → Holds bytes now → TakesIds bytes end (ids_onward s.decoder.next ids) now
     (state_of (moved s len (s.decoder.left - length ids) (s.decoder.next + next_after 0 ids)))
@@ -237,7 +237,7 @@ run_taken bytes end len ids more s now is going inv split size up count fits bel
     let a = length-append (stream_of ids) more in
     let parts = ap length split in
     let after = bytes_after bytes h.0 s len inv (omega (arith, a, parts, size)) h.1 in
-    let piece : drop (s.used + len) s.piece.items ≡ more = sym (drop-drop len s.used s.piece.items) ∙ ap (drop len) split
+    let piece : drop (s.used + len) s.window.piece.items ≡ more = sym (drop-drop len s.used s.window.piece.items) ∙ ap (drop len) split
     ∙ ap (λ n. drop n (stream_of ids ++ more)) size ∙ drop-append_seam (stream_of ids) more in
     let left_bytes : bytes_left bytes (state_of s) ≡ stream_of ids ++ (more ++ h.0) = h.1 ∙ ap (λ p. p ++ h.0) split
     ∙ append_assoc (stream_of ids) more h.0 in
@@ -288,11 +288,11 @@ module _ (bytes : List ℕ) (s : Inside) (now : ListState) (is : state_of s ≡ 
   begins_ended ended = begins_none (λ r. ap (λ e. (cond e (let r : Ids = record { ids = []; whole = s.is_whole } in r)
       (ids_ahead s.decoder (bytes_left bytes (state_of s)))).ids) ended)
 
-  pub begins_end : (whole : Bool) → s.has_ended ≡ false → IsStep s.decoder (drop s.used s.piece.items) (End whole) →
+  pub begins_end : (whole : Bool) → s.has_ended ≡ false → IsStep s.decoder (drop s.used s.window.piece.items) (End whole) →
       IsReady bytes now → BeginsFrom from (ids_left bytes now).ids
   begins_end whole going step = begins_none (λ r. ap (λ (ids : Ids). ids.ids) (ended_left bytes s going r whole step))
 
-  pub begins_next : (len : ℕ) → s.has_ended ≡ false → IsNextId s.decoder (drop s.used s.piece.items) from len →
+  pub begins_next : (len : ℕ) → s.has_ended ≡ false → IsNextId s.decoder (drop s.used s.window.piece.items) from len →
       IsReady bytes now → BeginsFrom from (ids_left bytes now).ids
   begins_next len going step ready =
       subst (λ (l : ListState). IsReady bytes l → BeginsFrom from (ids_left bytes l).ids) is
@@ -338,15 +338,15 @@ new_piece bytes piece at m len h enough is = (
     ]
 
 -- the piece has a whole varint, or ends with the section
-pub still_ready : (bytes : List ℕ) (s : Inside) (now : ListState) → state_of s ≡ now → s.used ≤ length s.piece.items →
-    (5 ≤ length s.piece.items - s.used) ⊎ (s.start + length s.piece.items ≡ s.stop) → Holds bytes now → IsReady bytes now
+pub still_ready : (bytes : List ℕ) (s : Inside) (now : ListState) → state_of s ≡ now → s.used ≤ length s.window.piece.items →
+    (5 ≤ length s.window.piece.items - s.used) ⊎ (s.window.start + length s.window.piece.items ≡ s.stop) → Holds bytes now → IsReady bytes now
 still_ready bytes s now is inside enough holds =
     subst (λ (n : ListState). Holds bytes n → IsReady bytes n) is
     (λ h.
-    let piece : List ℕ = drop s.used s.piece.items in
-    let l = length-drop s.used s.piece.items in
+    let piece : List ℕ = drop s.used s.window.piece.items in
+    let l = length-drop s.used s.window.piece.items in
     let parts = ap length h.1 in
-    let t = length-take (s.stop - (s.start + s.used)) (drop (s.start + s.used) bytes) in
+    let t = length-take (s.stop - (s.window.start + s.used)) (drop (s.window.start + s.used) bytes) in
     let a = length-append piece h.0 in (
       h.0,
       h.1,

@@ -8,12 +8,12 @@ use Rattle.cs_index.specs.Encoding.{with_nul}
 use Rattle.cs_index.specs.NameReading.{name_section, HasName, IsName, ReadsNames}
 use Rattle.cs_index.specs.OpenedParts.{Parts}
 use Rattle.cs_index.specs.Opening.{is_name_index, number_at, texts_of}
-use Rattle.cs_index.specs.Pieces.{IsPiece, StandsAt}
+use Rattle.cs_index.specs.Windows.{IsPiece, StandsAt}
 use Rattle.cs_index.specs.Stored.{StandsIn, StoredParts, sections_at}
 use Rattle.cs_index.specs.StoredOpening.{AreAscendingOffsets}
 use Rattle.cs_index.specs.declared.fault.IndexFault.{IndexFault}
 use Rattle.cs_index.specs.declared.reading.name_reader.NameReader.{NameReader}
-use Rattle.cs_index.specs.declared.reading.piece.Piece.{Piece}
+use Rattle.cs_index.specs.declared.reading.window.Window.{Window}
 use Rattle.cs_index.specs.declared.reading.section_offsets.SectionOffsets.{SectionOffsets}
 use Rattle.cs_index.proofs.decoding.DecodableBytesOpen.{pass_from, rise_from}
 use Rattle.cs_index.proofs.decoding.IndexFields.{offsets_long}
@@ -23,22 +23,22 @@ use Rattle.cs_index.proofs.stored.SectionReads.{stands_read}
 use Rattle.cs_index.proofs.stored.StoredEntries.{number_part}
 
 -- the bytes of the piece from an offset on
-pub part_prefix : (bytes : List ℕ) (p : Piece) (at : ℕ) → IsPiece bytes p → p.start ≤ at → at ≤ p.start
-    + length p.bytes.items → drop (at - p.start) p.bytes.items ≡ take (p.start + length p.bytes.items - at)
+pub part_prefix : (bytes : List ℕ) (p : Window) (at : ℕ) → IsPiece bytes p → p.start ≤ at → at ≤ p.start
+    + length p.piece.items → drop (at - p.start) p.piece.items ≡ take (p.start + length p.piece.items - at)
     (drop at bytes)
 part_prefix bytes p at is from within =
-    let len : ℕ = length p.bytes.items in
+    let len : ℕ = length p.piece.items in
     let there : p.start + (at - p.start) ≡ at = omega (arith, from) in
     ap (drop (at - p.start)) is
     ∙ ap (λ n. drop (at - p.start) (take n (drop p.start bytes))) (let z : len ≡ p.start + len - p.start = omega arith in z)
     ∙ sym (left_after bytes p.start (p.start + len) (at - p.start) (omega (arith, from, within)))
     ∙ ap (λ n. take (p.start + len - n) (drop n bytes)) there
 
-pub string_part : (bytes part text : List ℕ) (p : Piece) (at end : ℕ) → IsPiece bytes p → p.start ≤ at → at ≤ p.start
-    + length p.bytes.items → part ≡ drop (at - p.start) p.bytes.items → (stands : StandsAt bytes at end text) →
-    part ≡ take (p.start + length p.bytes.items - at) (with_nul text ++ stands.more)
+pub string_part : (bytes part text : List ℕ) (p : Window) (at end : ℕ) → IsPiece bytes p → p.start ≤ at → at ≤ p.start
+    + length p.piece.items → part ≡ drop (at - p.start) p.piece.items → (stands : StandsAt bytes at end text) →
+    part ≡ take (p.start + length p.piece.items - at) (with_nul text ++ stands.more)
 string_part bytes part text p at end is from within part_is stands =
-    part_is ∙ part_prefix bytes p at is from within ∙ ap (take (p.start + length p.bytes.items - at)) stands.there
+    part_is ∙ part_prefix bytes p at is from within ∙ ap (take (p.start + length p.piece.items - at)) stands.there
 
 pub if_none : {X : Type 0} {P : Type 0} (o : Option X) → ((x : X) → o ≡ Some x → ⊥) → IfNone o P → P
 if_none None not p = p
@@ -102,7 +102,7 @@ module _ (bytes : List ℕ) (parts : Parts) (reader : NameReader) (reads : Reads
           }
 
 -- the reader of a stored index
-pub reads_names : (bytes : List ℕ) (parts : Parts) (stored : StoredParts) (offsets names : Piece) (at len : ℕ) →
+pub reads_names : (bytes : List ℕ) (parts : Parts) (stored : StoredParts) (offsets names : Window) (at len : ℕ) →
     AreAscendingOffsets stored.starts → StandsIn bytes stored parts → IsPiece bytes offsets → IsPiece bytes names
     → ReadsNames bytes parts (record {
       start = stored.starts.names;

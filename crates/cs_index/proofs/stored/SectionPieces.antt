@@ -17,8 +17,9 @@ use Rattle.cs_index.specs.Decoding.{AreStrings}
 use Rattle.cs_index.specs.Opening.{is_name_index, is_names_section, is_section, number_at, numbers_from, texts_of}
 use Rattle.cs_index.specs.SectionPieces.{AreNamesIn, IsNoSection, IsTextRun, IsWindow, left_from}
 use Rattle.cs_index.specs.ValidSections.{HasNoText, has_starts}
+use Rattle.cs_index.specs.Windows.{IsPiece}
 use Rattle.cs_index.specs.declared.reading.bytes.TextRun.{TextRun}
-use Rattle.cs_index.specs.declared.reading.section_window.Window.{Window}
+use Rattle.cs_index.specs.declared.reading.window.Window.{Window}
 use Rattle.cs_index.specs.declared.reading.stored_sections.NameTest.{NameTest}
 use Rattle.cs_index.proofs.decoding.EntryTables.{offsets_step, offsets_wrong, offsets_end}
 use Rattle.cs_index.proofs.decoding.StringScan.{section_step, section_after, section_end, texts_step, none_formed, nul_first}
@@ -293,28 +294,27 @@ part_shown model bytes target r at n m so same = each r (shown (λ b. IfOk (item
 -- ---- a window of a section
 
 -- the bytes that are left begin with the next piece
-pub window_left : (bytes : List ℕ) (old new : Window) (used : ℕ) → new.start ≡ old.start + used → new.stop ≡ old.stop →
-    left_from bytes old used ≡ part_of bytes new.start (new.stop - new.start)
-window_left bytes old new used begin end = λ i. part_of bytes (sym begin i) (sym end i - sym begin i)
+pub window_left : (bytes : List ℕ) (stop : ℕ) (old new : Window) (used : ℕ) → new.start ≡ old.start + used →
+    left_from bytes stop old used ≡ part_of bytes new.start (stop - new.start)
+window_left bytes stop old new used begin = λ i. part_of bytes (sym begin i) (stop - sym begin i)
 
-pub window_begins : (bytes : List ℕ) (old new : Window) (used : ℕ) → new.start ≡ old.start + used → new.stop
-    ≡ old.stop → IsWindow new → new.piece.items ≡ part_of bytes new.start (length new.piece.items)
-    → left_from bytes old used ≡ new.piece.items ++ part_of bytes (new.start + length new.piece.items)
-    (new.stop - new.start - length new.piece.items)
-window_begins bytes old new used begin end is shown = window_left bytes old new used begin end
-    ∙ piece_first bytes new.piece.items new.start new.stop is.within shown
+pub window_begins : (bytes : List ℕ) (stop : ℕ) (old new : Window) (used : ℕ) → new.start ≡ old.start + used →
+    IsWindow new stop → IsPiece bytes new → left_from bytes stop old used
+    ≡ new.piece.items ++ part_of bytes (new.start + length new.piece.items) (stop - new.start - length new.piece.items)
+window_begins bytes stop old new used begin is shown = window_left bytes stop old new used begin
+    ∙ piece_first bytes new.piece.items new.start stop is.within shown
 
-pub window_run : (bytes : List ℕ) (old new : Window) (used : ℕ) (run : TextRun) → new.start ≡ old.start + used →
-    new.stop ≡ old.stop → IsWindow new → new.piece.items ≡ part_of bytes new.start (length new.piece.items)
-    → (r : IsTextRun new.piece.items run) → AreStrings (left_from bytes new run.len) r.texts (left_from bytes old used)
-window_run bytes old new used run begin end is shown r =
-    subst (λ (l : List ℕ). AreStrings (left_from bytes new run.len) r.texts l) (sym (window_left bytes old new used begin end))
-    (run_first bytes new.piece.items new.start new.stop run is.within shown r)
+pub window_run : (bytes : List ℕ) (stop : ℕ) (old new : Window) (used : ℕ) (run : TextRun) → new.start ≡ old.start + used →
+    IsWindow new stop → IsPiece bytes new → (r : IsTextRun new.piece.items run) →
+    AreStrings (left_from bytes stop new run.len) r.texts (left_from bytes stop old used)
+window_run bytes stop old new used run begin is shown r =
+    subst (λ (l : List ℕ). AreStrings (left_from bytes stop new run.len) r.texts l) (sym (window_left bytes stop old new used begin))
+    (run_first bytes new.piece.items new.start stop run is.within shown r)
 
 -- the last piece is all that is left
-pub window_last : (bytes : List ℕ) (w : Window) (used : ℕ) → IsWindow w → used ≤ length w.piece.items → w.piece.items
-    ≡ part_of bytes w.start (w.stop - w.start) → left_from bytes w used ≡ drop used w.piece.items
-window_last bytes w used is within shown = left_after bytes w.start w.stop used
+pub window_last : (bytes : List ℕ) (stop : ℕ) (w : Window) (used : ℕ) → IsWindow w stop → used ≤ length w.piece.items →
+    w.piece.items ≡ part_of bytes w.start (stop - w.start) → left_from bytes stop w used ≡ drop used w.piece.items
+window_last bytes stop w used is within shown = left_after bytes w.start stop used
     (let a = is.within in omega (arith, a, within)) ∙ ap (drop used) (sym shown)
 
 pub run_long : (piece : List ℕ) (run : TextRun) → (r : IsTextRun piece run) → length (run_bytes r.texts) ≡ run.len

@@ -161,7 +161,7 @@ fn candidates_in<S: Store>(
         IdWindow { start, end },
         page.most,
     )?;
-    let answer = if finish_all(alloc, store, lists)? {
+    let answer = if finish_all(store, lists)? {
         Ok(ids)
     } else {
         Err(IndexFault::BadList)
@@ -239,7 +239,7 @@ fn meet<S: Store>(
     }
     let width = window_width(form.nodes.len(), lists.len(), most);
     let rarest = rarest_list(form, lists);
-    let mut start = next_start(alloc, store, lists, rarest, all)?;
+    let mut start = next_start(store, lists, rarest, all)?;
     'windows: while start < all.end && ids.len() < most {
         let end = start + width.min(all.end - start);
         meet_window(alloc, store, form, lists, IdWindow { start, end }, &mut ids)?;
@@ -247,7 +247,7 @@ fn meet<S: Store>(
             start: end,
             end: all.end,
         };
-        start = next_start(alloc, store, lists, rarest, rest)?;
+        start = next_start(store, lists, rarest, rest)?;
     }
     ids.truncate(most);
     Ok(ids)
@@ -304,18 +304,14 @@ fn push_ids(ids: &mut Vec<u32>, row: &[bool], start: u32, end: u32) -> Result<()
 }
 
 /// Reads the lists to their ends. Returns whether all of them are whole.
-fn finish_all<S: Store>(
-    alloc: Global,
-    store: &mut S,
-    mut lists: Vec<StoredList>,
-) -> Result<bool, IoFault>
+fn finish_all<S: Store>(store: &mut S, mut lists: Vec<StoredList>) -> Result<bool, IoFault>
     ensures whole { (bytes : List ℕ) → S.model store.old ≡ Some bytes →
         AllByRecursion (Holds bytes) lists.items →
         IfOk result (λ whole. whole ≡ lists_are_whole bytes lists.items) }
     ensures store { KeepsStore S.model S.size S.failed store.old store.new result }
 {
     'lists: while let Some(mut list) = lists.pop() {
-        if !list.finish(alloc, store)? {
+        if !list.finish(store)? {
             return Ok(false);
         }
     }

@@ -1,5 +1,5 @@
 // A buffer of the posting lists of a store, which are read in the order of the list index.
-ghost use Rattle.std.specs.Prelude.{◌≡◌, ◌≤◌, ◌<◌, ◌+◌, ◌^◌, ℕ, List, Some, drop, length, slice_get, OnOk};
+ghost use Rattle.std.specs.Prelude.{◌≡◌, ◌≤◌, ◌<◌, ◌+◌, ◌^◌, ℕ, List, Some, length, slice_get, OnOk};
 ghost use Rattle.cs_tree.specs.KeepsStore.{KeepsStore};
 ghost use Rattle.cs_index.specs.AscendingIds.{max_ids};
 ghost use Rattle.cs_index.specs.ListBuffers.{HasList, IsBufferOf, list_in, buffered_list};
@@ -11,7 +11,8 @@ use crate::reading::postings::Postings;
 use crate::reading::stored_entries::Entry;
 use crate::reading::stored_list::{TRIGRAM_LEN, VARINT_LEN, is_list_of};
 use crate::reading::stored_tables::StoredTables;
-use cs_tree::{IoFault, Store, read_part};
+use crate::reading::window::Window;
+use cs_tree::{IoFault, Store};
 use std::alloc::Global;
 use std::marker::Model;
 
@@ -22,8 +23,7 @@ const READ_LEN: usize = 1 << 18;
 /// read in their order, each byte is read once.
 #[derive(Drop)]
 pub struct ListBuffer {
-    bytes: Vec<u8>,
-    start: usize,
+    window: Window,
     used: usize,
 }
 
@@ -35,11 +35,12 @@ impl Model for ListBuffer {
     ghost use Rattle.std.specs.Prelude.{◌+◌, ◌≤◌, ◌<◌, ◌^◌, drop, length};
 
     ghost view = { λ s. record {
-      at = s.start + s.used;
-      bytes = drop s.used s.bytes.items;
+      at = s.window.start + s.used;
+      bytes = drop s.used s.window.piece.items;
     } };
 
-    ghost invariant = { λ s. (s.used ≤ length s.bytes.items) × (s.start + length s.bytes.items < 2 ^ 32) };
+    ghost invariant = { λ s. (s.used ≤ length s.window.piece.items)
+        × (s.window.start + length s.window.piece.items < 2 ^ 32) };
 }
 
 impl ListBuffer {
@@ -48,8 +49,7 @@ impl ListBuffer {
         ensures { (bytes : List ℕ) → IsBufferOf bytes result }
     {
         ListBuffer {
-            bytes: Vec::new(alloc),
-            start: 0,
+            window: Window::new(alloc, 0),
             used: 0,
         }
     }
@@ -96,8 +96,8 @@ impl ListBuffer {
         let at = starts.postings + entry.offset as usize;
         let most = TRIGRAM_LEN + VARINT_LEN * (entry.count as usize + 1);
         let len = most.min(stop - at);
-        self.seek(at, stop);
-        self.fill(alloc, store, len, stop, least)
+        self.seek(alloc, at, stop);
+        self.fill(store, len, stop, least)
     }
 
     /// The ids of the list at a position of the list index, which was read last. Without an entry
@@ -106,25 +106,28 @@ impl ListBuffer {
         ensures { result ≡ buffered_list self.now tables.now (slice_get tables.now.entries position) }
     {
         match tables.entry_at(position) {
-            Some(entry) => postings_of(&self.bytes[self.used..], &entry, tables.name_count()),
+            Some(entry) => postings_of(
+                &self.window.piece[self.used..],
+                &entry,
+                tables.name_count(),
+            ),
             None => Postings::damage(),
         }
     }
 
     /// Goes to an offset of the store. The bytes from there on stay if they end before `stop`.
-    fn seek(&mut self, at: usize, stop: usize)
+    fn seek(&mut self, alloc: Global, at: usize, stop: usize)
         requires order { at ≤ stop }
         requires short { stop < 2 ^ 32 }
         ensures at { self.new.at ≡ at }
         ensures within { at + length self.new.bytes ≤ stop }
         ensures buffer { (bytes : List ℕ) → IsBufferOf bytes self.old → IsBufferOf bytes self.new }
     {
-        let end = self.start + self.bytes.len();
-        if self.start + self.used <= at && at <= end && end <= stop {
-            self.used = at - self.start;
+        let end = self.window.start + self.window.piece.len();
+        if self.window.start + self.used <= at && at <= end && end <= stop {
+            self.used = at - self.window.start;
         } else {
-            self.bytes.clear();
-            self.start = at;
+            self.window = Window::new(alloc, at);
             self.used = 0;
         }
     }
@@ -132,7 +135,6 @@ impl ListBuffer {
     /// Reads on until the buffer has `len` bytes, but not past `stop`.
     fn fill<S: Store>(
         &mut self,
-        alloc: Global,
         store: &mut S,
         len: usize,
         stop: usize,
@@ -143,36 +145,19 @@ impl ListBuffer {
         requires short { stop < 2 ^ 32 }
         ensures at { OnOk result (self.new.at ≡ self.old.at) }
         ensures within { OnOk result (self.new.at + length self.new.bytes ≤ stop) }
-        ensures enough { (bytes : List ℕ) → S.model store.old ≡ Some bytes → stop ≤ length bytes →
-            OnOk result (len ≤ length self.new.bytes) }
+        ensures enough { (bytes : List ℕ) → S.model store.old ≡ Some bytes → IsBufferOf bytes self.old →
+            stop ≤ length bytes → OnOk result (len ≤ length self.new.bytes) }
         ensures buffer { (bytes : List ℕ) → S.model store.old ≡ Some bytes → IsBufferOf bytes self.old →
             OnOk result (IsBufferOf bytes self.new) }
         ensures store { KeepsStore S.model S.size S.failed store.old store.new result }
     {
-        let left = self.bytes.len() - self.used;
-        if left >= len {
+        if self.window.piece.len() - self.used >= len {
             return Ok(());
         }
-        let at = self.start + self.used;
-        let end = at + left;
-        let more = (len - left).max(least).min(stop - end);
-        let read = read_part(alloc, store, end, more)?;
-        remove_prefix(&mut self.bytes, self.used);
-        self.start = at;
+        let at = self.window.start + self.used;
         self.used = 0;
-        self.bytes.extend_from_slice(&read)?;
-        Ok(())
+        self.window.read(store, at, len.max(least).min(stop - at))
     }
-}
-
-/// Removes the first `n` bytes.
-fn remove_prefix(bytes: &mut Vec<u8>, n: usize)
-    requires { n ≤ length bytes.old.items }
-    ensures { bytes.new.items ≡ drop n bytes.old.items }
-{
-    let len = bytes.len();
-    bytes.as_mut_slice().copy_within(n..len, 0);
-    bytes.truncate(len - n);
 }
 
 /// The ids of the list of an entry, which the bytes begin with.

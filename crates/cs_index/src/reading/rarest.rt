@@ -11,7 +11,6 @@ use crate::reading::form::{FIRST_LIST, Form, members_of};
 use crate::reading::rows::IdWindow;
 use crate::reading::stored_list::StoredList;
 use cs_tree::{IoFault, Store};
-use std::alloc::Global;
 
 /// The list of the fewest ids among those that have each id that a form matches.
 pub(crate) fn rarest_list(form: &Form, lists: &[StoredList]) -> Option<usize>
@@ -59,7 +58,6 @@ fn rarer(lists: &[StoredList], other: Option<usize>, number: usize) -> Option<us
 
 /// The first id of a window that the rarest list may have, or the window's end.
 pub(crate) fn next_start<S: Store>(
-    alloc: Global,
     store: &mut S,
     lists: &mut [StoredList],
     rarest: Option<usize>,
@@ -81,6 +79,6 @@ pub(crate) fn next_start<S: Store>(
     let Some(at) = rarest else {
         return Ok(window.start);
     };
-    let next = lists[at].skip_to(alloc, store, window.start)?;
+    let next = lists[at].skip_to(store, window.start)?;
     Ok(next.max(window.start).min(window.end))
 }

@@ -90,9 +90,9 @@ fn list_row<S: Store>(
         IfOk result (λ _. IsReadOn bytes window.end list.old list.new) }
     ensures store { KeepsStore S.model S.size S.failed store.old store.new result }
 {
-    list.skip_below(alloc, store, window.start)?;
+    list.skip_below(store, window.start)?;
     let mut row = Vec::new(alloc);
-    'ids: while let Some(id) = list.next_below(alloc, store, window.end)? {
+    'ids: while let Some(id) = list.next_below(store, window.end)? {
         if row.is_empty() {
             row.resize((window.end - window.start) as usize, false)?;
         }

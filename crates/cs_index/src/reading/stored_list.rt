@@ -13,7 +13,8 @@ ghost use Rattle.cs_index.specs.StoredLists.{GivesBelow, Holds, IsReady, SkipsBe
 use crate::encoded_run::{extent, marked_extent};
 use crate::reading::list_decoder::{ListDecoder, Step};
 use crate::reading::stored_entries::Entry;
-use cs_tree::{IoFault, Store, read_part};
+use crate::reading::window::Window;
+use cs_tree::{IoFault, Store};
 use std::alloc::Global;
 use std::marker::Model;
 
@@ -32,13 +33,11 @@ pub(crate) struct ListSection {
 }
 
 /// A posting list of a store. Its ids are decoded from a piece of its bytes, and the next piece is
-/// read where fewer bytes are left than a varint may have. So each byte of a list is read once,
-/// except for up to four bytes of a piece.
+/// read where fewer bytes are left than a varint may have. So each byte of a list is read once.
 #[derive(Drop)]
 pub(crate) struct StoredList {
-    piece: Vec<u8>,
+    window: Window,
     used: usize,
-    start: usize,
     stop: usize,
     size: usize,
     decoder: ListDecoder,
@@ -81,14 +80,14 @@ impl StoredList {
         let start = section.start + offset;
         let most = TRIGRAM_LEN + VARINT_LEN * (entry.count as usize + 1);
         let len = (section.room - offset).min(size).min(most);
-        let piece = read_part(alloc, store, start, len)?;
-        if !is_list_of(&piece, entry.trigram) {
+        let mut window = Window::new(alloc, 0);
+        window.read(store, start, len)?;
+        if !is_list_of(&window.piece, entry.trigram) {
             return Ok(StoredList::ended(alloc, false));
         }
         Ok(StoredList {
-            piece,
+            window,
             used: TRIGRAM_LEN,
-            start,
             stop: section.start + section.room,
             size,
             decoder: ListDecoder {
@@ -107,9 +106,8 @@ impl StoredList {
         ensures ids { (bytes : List ℕ) → ids_left bytes result ≡ record { ids = []; whole = is_whole } }
     {
         StoredList {
-            piece: Vec::new(alloc),
+            window: Window::new(alloc, 0),
             used: 0,
-            start: 0,
             stop: 0,
             size: VARINT_LEN,
             decoder: ListDecoder {
@@ -125,7 +123,6 @@ impl StoredList {
     /// The next id, if it is less than `end`; without one, the list stays as it is.
     pub(crate) fn next_below<S: Store>(
         &mut self,
-        alloc: Global,
         store: &mut S,
         end: u32,
     ) -> Result<Option<u32>, IoFault>
@@ -141,36 +138,31 @@ impl StoredList {
         if self.has_ended {
             return Ok(None);
         }
-        self.fill(alloc, store)?;
+        self.fill(store)?;
         Ok(self.take_below(end))
     }
 
     /// Reads the list to its end. Returns whether it is whole.
-    pub(crate) fn finish<S: Store>(&mut self, alloc: Global, store: &mut S) -> Result<bool, IoFault>
+    pub(crate) fn finish<S: Store>(&mut self, store: &mut S) -> Result<bool, IoFault>
         ensures whole { (bytes : List ℕ) → S.model store.old ≡ Some bytes → Holds bytes self.old →
             IfOk result (λ whole. whole ≡ (ids_left bytes self.old).whole) }
         ensures store { KeepsStore S.model S.size S.failed store.old store.new result }
     {
         let end = self.decoder.name_count;
-        self.skip_below(alloc, store, end)?;
+        self.skip_below(store, end)?;
         Ok(self.is_whole)
     }
 
     /// Skips the ids that are less than `start`. No id that is left is less than the result, which
     /// is the next id if there is one.
-    pub(crate) fn skip_to<S: Store>(
-        &mut self,
-        alloc: Global,
-        store: &mut S,
-        start: u32,
-    ) -> Result<u32, IoFault>
+    pub(crate) fn skip_to<S: Store>(&mut self, store: &mut S, start: u32) -> Result<u32, IoFault>
         ensures skips { (bytes : List ℕ) → S.model store.old ≡ Some bytes → Holds bytes self.old →
             IfOk result (λ next. SkipsBelow bytes start self.old self.new
             × BeginsFrom next (ids_left bytes self.new).ids) }
         ensures store { KeepsStore S.model S.size S.failed store.old store.new result }
     {
-        self.skip_below(alloc, store, start)?;
-        self.fill(alloc, store)?;
+        self.skip_below(store, start)?;
+        self.fill(store)?;
         Ok(self.first_left())
     }
 
@@ -182,7 +174,7 @@ impl StoredList {
         if self.has_ended {
             return self.decoder.name_count;
         }
-        match self.decoder.step(&self.piece[self.used..]) {
+        match self.decoder.step(&self.window.piece[self.used..]) {
             Step::Id(id, _) => id,
             Step::End(_) => self.decoder.name_count,
         }
@@ -194,19 +186,14 @@ impl StoredList {
     }
 
     /// Skips the ids that are less than `end`.
-    pub(crate) fn skip_below<S: Store>(
-        &mut self,
-        alloc: Global,
-        store: &mut S,
-        end: u32,
-    ) -> Result<(), IoFault>
+    pub(crate) fn skip_below<S: Store>(&mut self, store: &mut S, end: u32) -> Result<(), IoFault>
         ensures skips { (bytes : List ℕ) → S.model store.old ≡ Some bytes → Holds bytes self.old →
             OnOk result (SkipsBelow bytes end self.old self.new
             × BeginsFrom end (ids_left bytes self.new).ids) }
         ensures ended { OnOk result (self.old.name_count ≤ end → self.new.has_ended ≡ true) }
         ensures store { KeepsStore S.model S.size S.failed store.old store.new result }
     {
-        'ids: while let Some(_id) = self.next_below(alloc, store, end)? {
+        'ids: while let Some(_id) = self.next_below(store, end)? {
             self.skip_short(end);
         }
         Ok(())
@@ -227,7 +214,7 @@ impl StoredList {
         if end < self.decoder.next {
             return;
         }
-        let piece = &self.piece[self.used..];
+        let piece = &self.window.piece[self.used..];
         let ids = extent(piece, self.decoder.left, end - self.decoder.next);
         self.used += ids.len;
         self.decoder.left -= ids.count;
@@ -255,7 +242,7 @@ impl StoredList {
             return;
         }
         let at = (self.decoder.next - start) as usize;
-        let piece = &self.piece[self.used..];
+        let piece = &self.window.piece[self.used..];
         let ids = marked_extent(piece, self.decoder.left, end - self.decoder.next, row, at);
         self.used += ids.len;
         self.decoder.left -= ids.count;
@@ -263,23 +250,21 @@ impl StoredList {
     }
 
     /// Reads the next piece if the one that is there may end inside a varint.
-    fn fill<S: Store>(&mut self, alloc: Global, store: &mut S) -> Result<(), IoFault>
+    fn fill<S: Store>(&mut self, store: &mut S) -> Result<(), IoFault>
         ensures ready { (bytes : List ℕ) → S.model store.old ≡ Some bytes → Holds bytes self.old →
             OnOk result (IsReady bytes self.new) }
         ensures same { self.new ≡ with_piece self.old self.new.piece }
         ensures store { KeepsStore S.model S.size S.failed store.old store.new result }
     {
-        let at = self.start + self.used;
-        let len = self.piece.len();
-        if len - self.used >= VARINT_LEN || self.start + len == self.stop {
+        let at = self.window.start + self.used;
+        let len = self.window.piece.len();
+        if len - self.used >= VARINT_LEN || self.window.start + len == self.stop {
             return Ok(());
         }
         let most = VARINT_LEN * (self.decoder.left as usize + 1);
         let len = (self.stop - at).min(self.size).min(most);
-        self.piece = read_part(alloc, store, at, len)?;
-        self.start = at;
         self.used = 0;
-        Ok(())
+        self.window.read(store, at, len)
     }
 
     /// The next id of the piece, if it is less than `end`; without one, the list stays as it is, or
@@ -296,7 +281,7 @@ impl StoredList {
         if self.has_ended {
             return None;
         }
-        match self.decoder.step(&self.piece[self.used..]) {
+        match self.decoder.step(&self.window.piece[self.used..]) {
             Step::End(is_whole) => {
                 self.has_ended = true;
                 self.is_whole = is_whole;

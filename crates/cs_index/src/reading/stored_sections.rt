@@ -8,9 +8,8 @@ ghost use Rattle.cs_index.specs.StoredOpening.{AreAscendingOffsets};
 
 use crate::reading::bytes::{first_texts, is_closed, is_ending};
 use crate::reading::entries::{ENTRY_LEN, has_offsets, test_entries};
-use crate::reading::part::read_into;
 use crate::reading::section_offsets::SectionOffsets;
-use crate::reading::section_window::Window;
+use crate::reading::window::Window;
 use cs_tree::{IoFault, Store, read_part};
 use std::alloc::{AllocError, Global};
 
@@ -37,9 +36,9 @@ pub(crate) fn read_paths<S: Store>(
     ensures store { KeepsStore S.model S.size S.failed store.old store.new result }
 {
     let mut paths = Vec::new(alloc);
-    let mut window = Window::new(alloc, starts.paths, starts.names);
+    let mut window = Window::new(alloc, starts.paths);
     let mut used = 0;
-    'pieces: while window.read_on(store, used)? {
+    'pieces: while window.read_on(store, used, starts.names)? {
         let Some(run) = first_texts(&window.piece) else {
             return Ok(None);
         };
@@ -77,13 +76,13 @@ pub(crate) fn test_names<S: Store>(
         starts.now.list_index - starts.now.name_index ≡ 4 * (test.count + 1))) }
     ensures store { KeepsStore S.model S.size S.failed store.old store.new result }
 {
-    let mut window = Window::new(alloc, starts.names, starts.postings);
+    let mut window = Window::new(alloc, starts.names);
     let mut used = 0;
     let mut count = 0;
     let mut have_offsets = true;
     let mut more = true;
     'pieces: while more {
-        more = window.read_on(store, used)?;
+        more = window.read_on(store, used, starts.postings)?;
         let Some(run) = first_texts(&window.piece) else {
             return Ok(None);
         };
@@ -142,7 +141,7 @@ pub(crate) fn has_stored_entries<S: Store>(
     ensures store { KeepsStore S.model S.size S.failed store.old store.new result }
 {
     let room = starts.name_index - starts.postings;
-    let mut piece = Vec::new(alloc);
+    let mut window = Window::new(alloc, starts.list_index);
     let mut at = starts.list_index;
     let mut least = 0;
     if (starts.trailer - at) % ENTRY_LEN != 0 {
@@ -150,12 +149,12 @@ pub(crate) fn has_stored_entries<S: Store>(
     }
     'pieces: while at < starts.trailer {
         let len = (starts.trailer - at).min(ENTRIES_LEN);
-        read_into(&mut piece, store, at, len)?;
+        window.read(store, at, len)?;
         // (A store that has changed may end here.)
-        if piece.len() < len {
+        if window.piece.len() < len {
             return Ok(false);
         }
-        let Some(next) = test_entries(&piece, least, room) else {
+        let Some(next) = test_entries(&window.piece, least, room) else {
             return Ok(false);
         };
         least = next;

@@ -120,7 +120,7 @@ fn first_list(
 }
 
 /// The number of reads of `first_list`.
-const READS: usize = 14;
+const READS: usize = 12;
 
 #[test]
 fn reads_that_fail(rt: HostRuntime) {

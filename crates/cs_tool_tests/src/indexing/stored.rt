@@ -7,7 +7,7 @@ use std::alloc::Global;
 use std::test::Fail;
 
 /// The number of reads of a listing of `ONE_FILE`; no posting list is read.
-const READS: usize = 9;
+const READS: usize = 7;
 
 /// Whether a job of `-list` whose reads fail after this number gives this answer (whether it is
 /// done), this output and this number of failures.

@@ -57,7 +57,7 @@ fn search_stored(
 }
 
 /// The number of reads of a search of `ONE_FILE` for one trigram.
-const READS: usize = 17;
+const READS: usize = 15;
 
 /// Whether a search whose reads fail after this number fails, prints nothing and counts one
 /// failure.

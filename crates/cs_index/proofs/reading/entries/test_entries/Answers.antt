@@ -1,6 +1,6 @@
-use Rattle.std.proofs.Common.{rules, ◌≡◌, ◌≤◌, ◌<◌, ◌⊎◌, ◌+◌, ◌-◌, ◌/◌, ◌∙◌, ◌&&◌, ◌∷◌, ◌++◌, ap, sym, true, false, leb, inl, inr, ℕ, zero, suc, Bool, List, length, arith}
+use Rattle.std.proofs.Common.{rules, ◌≡◌, ◌≤◌, ◌<◌, ◌⊎◌, ◌+◌, ◌-◌, ◌/◌, ◌∙◌, ◌&&◌, ◌∷◌, ◌++◌, ap, sym, true, false, leb, inl, inr, ℕ, Bool, List, length, arith}
 use Rattle.std.proofs.Math.Bool.{and-false}
-use Rattle.std.proofs.lemmas.Bool.{le-leb, lt-leb}
+use Rattle.std.proofs.lemmas.Bool.{lt-leb}
 use Rattle.cs_index.specs.Encoding.{ListEntry}
 use Rattle.cs_index.specs.Opening.{entries_from, entry_at, trigram_at}
 use Rattle.cs_index.specs.SectionPieces.{are_entries}

@@ -1,11 +1,13 @@
-use Rattle.std.proofs.Common.{◌≡◌, ◌≤◌, ◌+◌, ◌-◌, ◌%◌, ◌∙◌, ◌++◌, ap, sym, arith, ℕ, List, length}
+use Rattle.std.proofs.Common.{◌≡◌, ◌≤◌, ◌+◌, ◌-◌, ◌%◌, ◌∙◌, ◌++◌, ap, sym, subst, arith, ℕ, List, length, length-take, length-drop, drop}
 use Rattle.cs_tree.specs.Store.{part_of}
 use Rattle.cs_index.specs.Opening.{entries_in}
 use Rattle.cs_index.specs.SectionPieces.{are_entries}
+use Rattle.cs_index.specs.Windows.{StandAt}
 use Rattle.cs_index.proofs.decoding.DecodableBytesOpen.{rise_from}
 use Rattle.cs_index.proofs.stored.EntryPieces.{entries_joined, list_index_tested, list_index_uneven, no_entries}
 use Rattle.cs_index.proofs.stored.ListPieces.{part_split}
 use Rattle.cs_index.proofs.stored.SectionPieces.{part_long}
+use Rattle.cs_index.proofs.stored.Windows.{has_from, stand}
 use Rattle.cs_index.proofs.reading.stored_sections.has_stored_entries.Goals as goal
 
 pub returns-then-starts-at-ne0-clause-entries : goal.returns-then-starts-at-ne0-clause-entries
@@ -29,6 +31,17 @@ module _ (bytes piece : List ℕ) (at trailer len : ℕ) (is : piece ≡ part_of
       ((let z : trailer - at - len ≡ trailer - (at + len) = omega arith in z) i)))
       ∙ entries_joined piece after (ap (λ n. n % 11) fits ∙ whole)
 
+pub returns-then-len-clause-entries : goal.returns-then-len-clause-entries
+returns-then-len-clause-entries g c bytes m within =
+    let i = c.pieces.invariant in
+    let at : ℕ = c.pieces.at in
+    let len : ℕ = c.min-len.result in
+    let end = i.within in
+    let long = ap length (c.in_ok-read.ensures.piece bytes (i.keeps ∙ m) (has_from bytes c.pieces.window at (i.piece bytes m))) in
+    let t = length-take len (drop at bytes) in
+    let d = length-drop at bytes in
+    absurd (omega (arith, long, t, d, within, end, c.if-len.true, c.min-len.ensures))
+
 pub returns-in_default-clause-entries : goal.returns-in_default-clause-entries
 returns-in_default-clause-entries g c bytes m within =
     let s = c.args.starts.now in
@@ -38,16 +51,16 @@ returns-in_default-clause-entries g c bytes m within =
     let order = rise_from s.paths s.names s.postings s.name_index s.list_index s.trailer c.requires.order in
     let long = part_long bytes s.list_index s.trailer order.ea within in
     let len : ℕ = c.min-len.result in
-    let piece : List ℕ = c.read_into.new.part.items in
+    let piece : List ℕ = c.read.new.self.piece.items in
     let left = i.whole in
-    let read = c.in_ok-read_into.ensures.part bytes (i.keeps ∙ m) in
+    let read = c.in_ok-read.ensures.piece bytes (i.keeps ∙ m) (has_from bytes c.pieces.window c.pieces.at (i.piece bytes m)) in
     sym (list_index_tested room section (ap (λ n. n % 11) long ∙ c.if-starts-at-ne0.false)
     ∙ i.left bytes m within
     ∙ ap (are_entries room c.pieces.least) (joined bytes piece c.pieces.at s.trailer len read
-    (omega (arith, c.if-len.false, c.in_ok-read_into.ensures.bound)) (omega (arith, c.min-len.ensures))
+    (omega (arith, c.if-len.false, c.read.ensures.bound)) (omega (arith, c.min-len.ensures))
     (omega (arith, c.min-len.ensures, left))
     ∙ ap (λ p. entries_in p ++ entries_in (after bytes piece c.pieces.at s.trailer len read
-    (omega (arith, c.if-len.false, c.in_ok-read_into.ensures.bound)) (omega (arith, c.min-len.ensures))
+    (omega (arith, c.if-len.false, c.read.ensures.bound)) (omega (arith, c.min-len.ensures))
     (omega (arith, c.min-len.ensures, left)))) (sym c.deref.ensures.value))
     ∙ c.in_default.ensures.none (entries_in (part_of bytes (c.pieces.at + len) (s.trailer - (c.pieces.at + len)))))
 
@@ -57,7 +70,7 @@ pieces-preserved g c =
     let i = c.pieces.invariant in
     let room : ℕ = s.name_index - s.postings in
     let len : ℕ = c.min-len.result in
-    let piece : List ℕ = c.read_into.new.part.items in
+    let piece : List ℕ = c.read.new.self.piece.items in
     let left = i.whole in
     let begun = i.begun in
     record {
@@ -65,17 +78,19 @@ pieces-preserved g c =
       within = omega (arith, c.min-len.ensures);
       whole = omega (arith, c.min-len.ensures, left);
       left = λ bytes m within.
-          let read = c.in_ok-read_into.ensures.part bytes (i.keeps ∙ m) in
+          let read = c.in_ok-read.ensures.piece bytes (i.keeps ∙ m) (has_from bytes c.pieces.window c.pieces.at (i.piece bytes m)) in
           i.left bytes m within
           ∙ ap (are_entries room c.pieces.least) (joined bytes piece c.pieces.at s.trailer len read
-          (omega (arith, c.if-len.false, c.in_ok-read_into.ensures.bound)) (omega (arith, c.min-len.ensures))
+          (omega (arith, c.if-len.false, c.read.ensures.bound)) (omega (arith, c.min-len.ensures))
           (omega (arith, c.min-len.ensures, left))
           ∙ ap (λ p. entries_in p ++ entries_in (part_of bytes (c.pieces.at + len) (s.trailer - (c.pieces.at + len))))
           (sym c.deref.ensures.value))
           ∙ c.in-Some.ensures.some (entries_in (part_of bytes (c.pieces.at + len) (s.trailer - (c.pieces.at + len))));
-      keeps = c.read_into.ensures.store.0 ∙ i.keeps;
-      size = c.read_into.ensures.store.1 ∙ i.size;
-      failed = c.in_ok-read_into.ensures.store.2 ∙ i.failed;
+      piece = λ bytes m. subst (λ (n : ℕ). StandAt bytes n piece) (sym c.read.ensures.start) (stand bytes piece c.pieces.at len
+          (c.in_ok-read.ensures.piece bytes (i.keeps ∙ m) (has_from bytes c.pieces.window c.pieces.at (i.piece bytes m))));
+      keeps = c.read.ensures.store.0 ∙ i.keeps;
+      size = c.read.ensures.store.1 ∙ i.size;
+      failed = c.in_ok-read.ensures.store.2 ∙ i.failed;
     }
 
 pub returns-clause-entries : goal.returns-clause-entries

@@ -10,9 +10,10 @@ returns-in_default-clause-paths g c bytes m within =
     let i = c.pieces.invariant in
     let new = c.read_on.new.self in
     let piece : List ℕ = new.piece.items in
-    let more : List ℕ = part_of bytes (new.start + length piece) (new.stop - new.start - length piece) in
-    let begins = window_begins bytes c.pieces.window new c.pieces.used c.in_ok-read_on.ensures.start
-    c.read_on.ensures.stop c.read_on.ensures.window (c.in_ok-read_on.ensures.piece bytes (i.keeps ∙ m)) in
+    let stop : ℕ = c.args.starts.now.names in
+    let more : List ℕ = part_of bytes (new.start + length piece) (stop - new.start - length piece) in
+    let begins = window_begins bytes stop c.pieces.window new c.pieces.used c.in_ok-read_on.ensures.start
+    c.read_on.ensures.window (c.in_ok-read_on.ensures.piece bytes (i.keeps ∙ m) (i.piece bytes m)) in
     ap (is_section (0 ∷ [])) (i.left bytes m ∙ ap (λ l. c.pieces.paths.items ++ l) begins)
     ∙ i.strings (0 ∷ []) (piece ++ more)
     ∙ ap (λ p. is_section (0 ∷ []) (p ++ more)) (sym c.deref.ensures.value)
@@ -31,18 +32,18 @@ pieces-preserved g c =
     record {
       window = c.read_on.ensures.window;
       used = is.within;
-      stop = c.read_on.ensures.stop ∙ i.stop;
+      piece = λ bytes m. c.in_ok-read_on.ensures.piece bytes (i.keeps ∙ m) (i.piece bytes m);
       strings = λ closing rest.
           ap (λ p. is_section closing (p ++ rest)) paths
           ∙ ap (is_section closing) (append_assoc c.pieces.paths.items (run_bytes is.texts) rest)
           ∙ i.strings closing (run_bytes is.texts ++ rest) ∙ strings_before closing rest is.texts is.strings.0;
       left = λ bytes m.
           i.left bytes m
-          ∙ ap (λ l. c.pieces.paths.items ++ l) (window_run bytes c.pieces.window new c.pieces.used run
-          c.in_ok-read_on.ensures.start c.read_on.ensures.stop c.read_on.ensures.window
-          (c.in_ok-read_on.ensures.piece bytes (i.keeps ∙ m)) is).1
-          ∙ sym (append_assoc c.pieces.paths.items (run_bytes is.texts) (left_from bytes new run.len))
-          ∙ ap (λ p. p ++ left_from bytes new run.len) (sym paths);
+          ∙ ap (λ l. c.pieces.paths.items ++ l) (window_run bytes c.args.starts.now.names c.pieces.window new c.pieces.used run
+          c.in_ok-read_on.ensures.start c.read_on.ensures.window
+          (c.in_ok-read_on.ensures.piece bytes (i.keeps ∙ m) (i.piece bytes m)) is).1
+          ∙ sym (append_assoc c.pieces.paths.items (run_bytes is.texts) (left_from bytes c.args.starts.now.names new run.len))
+          ∙ ap (λ p. p ++ left_from bytes c.args.starts.now.names new run.len) (sym paths);
       keeps = c.read_on.ensures.store.0 ∙ i.keeps;
       size = c.read_on.ensures.store.1 ∙ i.size;
       failed = c.in_ok-read_on.ensures.store.2 ∙ i.failed;

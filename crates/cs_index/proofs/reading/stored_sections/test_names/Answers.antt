@@ -14,18 +14,21 @@ pub pieces-init : goal.pieces-init
 pieces-init g c =
     let s = c.args.starts.now in
     let w = c.new-window.result in
+    let rise = rise_from s.paths s.names s.postings s.name_index s.list_index s.trailer c.requires.order in
+    let empty = ap length c.new-window.ensures.empty in
+    let short = c.requires.short in
     record {
-      window = c.new-window.ensures.window;
+      window = record { within = omega (arith, empty, rise.bc, c.new-window.ensures.start); short = omega (arith, short, rise.cd, rise.de, rise.ea) };
       used = omega arith;
-      stop = c.new-window.ensures.stop;
+      piece = λ bytes m. c.new-window.ensures.piece bytes;
       few = omega (arith, c.new-window.ensures.start);
       begun = omega (arith, c.new-window.ensures.start);
       before = λ bytes m.
           let section : List ℕ = part_of bytes s.names (s.postings - s.names) in
           let index : List ℕ = part_of bytes s.name_index (s.list_index - s.name_index) in
           let begin : s.names ≡ w.start + 0 = omega (arith, c.new-window.ensures.start) in
-          let size : s.postings - s.names ≡ w.stop - (w.start + 0) = omega (arith, c.new-window.ensures.start, c.new-window.ensures.stop) in
-          subst (λ (o : ℕ). AreNamesBefore section index (left_from bytes w 0) 0 o true)
+          let size : s.postings - s.names ≡ s.postings - (w.start + 0) = omega (arith, c.new-window.ensures.start) in
+          subst (λ (o : ℕ). AreNamesBefore section index (left_from bytes s.postings w 0) 0 o true)
           (let z : 0 ≡ w.start + 0 - s.names = omega (arith, begin) in z)
           (subst (λ (l : List ℕ). AreNamesBefore section index l 0 0 true) (λ i. part_of bytes (begin i) (size i))
           (none_before section index));
@@ -41,10 +44,11 @@ returns-in_default-clause-names g c bytes m within =
     let i = c.pieces.invariant in
     let new = c.read_on.new.self in
     let piece : List ℕ = new.piece.items in
-    let more : List ℕ = part_of bytes (new.start + length piece) (new.stop - new.start - length piece) in
-    let begins = window_begins bytes c.pieces.window new c.pieces.used c.in_ok-more.ensures.start c.read_on.ensures.stop
-    c.read_on.ensures.window (c.in_ok-more.ensures.piece bytes (i.keeps ∙ m)) in
-    names_not _ _ (left_from bytes c.pieces.window c.pieces.used) _ _ _ (i.before bytes m)
+    let stop : ℕ = c.args.starts.now.postings in
+    let more : List ℕ = part_of bytes (new.start + length piece) (stop - new.start - length piece) in
+    let begins = window_begins bytes stop c.pieces.window new c.pieces.used c.in_ok-more.ensures.start
+    c.read_on.ensures.window (c.in_ok-more.ensures.piece bytes (i.keeps ∙ m) (i.piece bytes m)) in
+    names_not _ _ (left_from bytes stop c.pieces.window c.pieces.used) _ _ _ (i.before bytes m)
     (subst IsNoSection (ap (λ p. p ++ more) c.deref.ensures.value ∙ sym begins) (c.in_default.ensures.none more))
 
 pub has_offsets-have_offsets-requires-clause-names : goal.has_offsets-have_offsets-requires-clause-names
@@ -82,15 +86,15 @@ pieces-preserved g c =
     record {
       window = c.read_on.ensures.window;
       used = is.within;
-      stop = c.read_on.ensures.stop ∙ i.stop;
+      piece = λ bytes m. c.in_ok-more.ensures.piece bytes (i.keeps ∙ m) (i.piece bytes m);
       few = omega (arith, begin, few, counts);
       begun = omega (arith, begin, begun);
       before = λ bytes m.
           let section : List ℕ = part_of bytes s.names (s.postings - s.names) in
           let index : List ℕ = part_of bytes s.name_index (s.list_index - s.name_index) in
-          let rest : List ℕ = left_from bytes new run.len in
-          let strings = window_run bytes old new c.pieces.used run begin c.read_on.ensures.stop c.read_on.ensures.window
-          (c.in_ok-more.ensures.piece bytes (i.keeps ∙ m)) is in
+          let rest : List ℕ = left_from bytes s.postings new run.len in
+          let strings = window_run bytes s.postings old new c.pieces.used run begin c.read_on.ensures.window
+          (c.in_ok-more.ensures.piece bytes (i.keeps ∙ m) (i.piece bytes m)) is in
           let numbers : List ℕ = part_of index (4 * c.pieces.count) (4 * (length is.texts + 1)) in
           let read : c.deref-in-pieces.result.now ≡ numbers =
           c.deref-in-pieces.ensures.value ∙ c.in_ok-numbers.ensures.numbers bytes (c.read_on.ensures.store.0 ∙ i.keeps ∙ m)
@@ -100,15 +104,15 @@ pieces-preserved g c =
           ((ap (λ p. texts_of (take run.len p)) c.deref-in-pieces-2.ensures.value ∙ run_texts piece run is) j)) in
           subst (AreNamesBefore section index rest (c.pieces.count + run.count) (new.start + run.len - s.names))
           (ap (λ b. c.pieces.have_offsets && b) (sym have))
-          (names_more section index (left_from bytes old c.pieces.used) rest numbers
+          (names_more section index (left_from bytes s.postings old c.pieces.used) rest numbers
           c.pieces.count (c.pieces.count + run.count) offset (new.start + run.len - s.names) c.pieces.have_offsets
           is.texts (i.before bytes m) strings refl
           (ap (λ n. c.pieces.count + n) (sym is.count)) (omega (arith, begin, begun, long)));
       rest = λ e. is.rest;
       last = λ bytes m within e.
-          window_last bytes new run.len c.read_on.ensures.window is.within
-          (c.in_ok-more.ensures.end bytes (i.keeps ∙ m) (let stop = i.stop in let a = order.cd in let b = order.de in
-          let d = order.ea in omega (arith, stop, within, a, b, d)) e);
+          window_last bytes s.postings new run.len c.read_on.ensures.window is.within
+          (c.in_ok-more.ensures.end bytes (i.keeps ∙ m) (i.piece bytes m) (let a = order.cd in let b = order.de in
+          let d = order.ea in omega (arith, within, a, b, d)) e);
       keeps = c.read_numbers.ensures.store.0 ∙ c.read_on.ensures.store.0 ∙ i.keeps;
       size = c.read_numbers.ensures.store.1 ∙ c.read_on.ensures.store.1 ∙ i.size;
       failed = c.in_ok-numbers.ensures.store.2 ∙ c.in_ok-more.ensures.store.2 ∙ i.failed;

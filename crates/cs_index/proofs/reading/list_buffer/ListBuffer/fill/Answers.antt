@@ -1,23 +1,28 @@
-use Rattle.std.proofs.Common.{◌≡◌, ◌+◌, ◌-◌, ◌++◌, ◌∙◌, sym, subst, ℕ, List, length, drop, arith, length-drop}
-use Rattle.cs_tree.specs.Store.{part_of}
-use Rattle.cs_index.specs.ListBuffers.{IsBufferOf}
-use Rattle.cs_index.proofs.stored.ListBuffers.{part_joined}
-use Rattle.cs_index.proofs.stored.ListPieces.{shown}
+use Rattle.std.proofs.Common.{◌≡◌, ◌+◌, ◌≤◌, ap, sym, subst, ℕ, List, length, drop, length-take, length-drop, arith}
+use Rattle.cs_index.specs.ListBuffers.{BufferState, IsBufferOf}
+use Rattle.cs_index.specs.Windows.{StandAt}
+use Rattle.cs_index.proofs.stored.Windows.{buffered_from, on_ok, stand}
 use Rattle.cs_index.proofs.reading.list_buffer.ListBuffer.fill.Goals as goal
 
 pub returns-clause-buffer : goal.returns-clause-buffer
 returns-clause-buffer g c bytes m is =
     let s = c.self.inside in
-    let at : ℕ = s.start + s.used in
-    let end : ℕ = at + (c.len.result - s.used) in
-    let piece : List ℕ = drop s.used s.bytes.items in
-    let read : List ℕ = c.in_ok-read.read.items in
-    let l = length-drop s.used s.bytes.items in
-    let len = c.len.ensures ∙ s.bytes.ok.0 in
-    let there = shown (λ b. read ≡ part_of b end c.min-more.result) (g.S.Store.model c.args.store.now) bytes m c.in_ok-read.ensures.bytes in
-    let all : c.extend_from_slice.new.self.items ≡ piece ++ read =
-    c.in_ok-extend_from_slice.ensures.items ∙ (λ i. c.remove_prefix.ensures i ++ c.deref.ensures.value i) in
-    let zero : at ≡ at + 0 = omega arith in
-    all
-    ∙ part_joined bytes piece read at end c.min-more.result (omega (arith, l, len)) (subst (IsBufferOf bytes) (sym c.self.view_is) is) there
-    ∙ (λ i. part_of bytes (zero i) (length (sym all i)))
+    let piece : List ℕ = c.read.new.self.piece.items in
+    on_ok c.read.result
+    (λ read. subst (λ (n : ℕ). StandAt bytes n piece)
+    (let z : s.window.start + s.used ≡ c.read.new.self.start + 0 = omega (arith, c.read.ensures.start) in z)
+    (stand bytes piece (s.window.start + s.used) c.min.result read))
+    (c.read.ensures.piece bytes m (buffered_from bytes s.window s.used (subst (IsBufferOf bytes) (sym c.self.view_is) is)))
+
+pub returns-clause-enough : goal.returns-clause-enough
+returns-clause-enough g c bytes m is within =
+    let s = c.self.inside in
+    let at : ℕ = s.window.start + s.used in
+    let t = length-take c.min.result (drop at bytes) in
+    let d = length-drop at bytes in
+    let fits : at + c.args.len ≤ c.args.stop = subst (λ (b : ℕ). b + c.args.len ≤ c.args.stop) (sym (at_is c.self.view_is)) c.requires.len in
+    on_ok c.read.result (λ read. let l = ap length read in omega (arith, l, t, d, within, fits, c.min.ensures, c.max.ensures))
+    (c.read.ensures.piece bytes m (buffered_from bytes s.window s.used (subst (IsBufferOf bytes) (sym c.self.view_is) is)))
+  where
+    at_is : {a b : BufferState} → a ≡ b → a.at ≡ b.at
+    at_is same = ap (λ (x : BufferState). x.at) same

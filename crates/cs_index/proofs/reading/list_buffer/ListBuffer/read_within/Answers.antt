@@ -28,5 +28,5 @@ returns-clause-list g c bytes m is parts tables =
       | inr more ↦ inl (omega (arith, more, enough, c.min-len.ensures, stop, first))
     ]))
     c.fill.ensures.at c.fill.ensures.within
-    (c.fill.ensures.enough bytes m (omega (arith, trailer, stop, rise.de, rise.ea)))
+    (c.fill.ensures.enough bytes m (c.seek.ensures.buffer bytes is) (omega (arith, trailer, stop, rise.de, rise.ea)))
     (c.fill.ensures.buffer bytes m (c.seek.ensures.buffer bytes is))

@@ -1,7 +1,7 @@
 use Rattle.std.proofs.Common.{◌+◌, ◌∙◌, subst, Ok, Err, length, slice_get}
 use Rattle.cs_index.specs.declared.fault.IndexFault.TheVariants.{BadNames}
 use Rattle.cs_index.specs.declared.reading.name_reader.NameReader.{NameReader}
-use Rattle.cs_index.specs.Pieces.{HasText}
+use Rattle.cs_index.specs.Windows.{HasText}
 use Rattle.cs_index.proofs.stored.NamePieces.{named, offset_within, stands_there}
 use Rattle.cs_index.proofs.reading.name_reader.NameReader.read.Goals as goal
 

@@ -1,14 +1,15 @@
 use Rattle.std.proofs.Common.{◌≡◌, ◌+◌, ◌-◌, ◌∙◌, inl, inr, ap, ℕ, List, arith}
 use Rattle.std.proofs.lemmas.Bool.{cases_lt}
 use Rattle.cs_tree.specs.Store.{part_of}
-use Rattle.cs_index.proofs.stored.ListPieces.{new_piece, shown, still_ready}
+use Rattle.cs_index.proofs.stored.ListPieces.{new_piece, still_ready}
+use Rattle.cs_index.proofs.stored.Windows.{list_from, on_ok}
 use Rattle.cs_index.proofs.reading.stored_list.StoredList.fill.Goals as goal
 use Rattle.cs_index.proofs.reading.stored_list.StoredList.fill.Goals.{then-len-self-ge-VARINT_LEN-via-then-len-self-ge-VARINT_LEN, then-len-self-ge-VARINT_LEN-via-else-len-self-ge-VARINT_LEN+then-self-len}
 
 pub returns-then-len-self-ge-VARINT_LEN-clause-ready : goal.returns-then-len-self-ge-VARINT_LEN-clause-ready
 returns-then-len-self-ge-VARINT_LEN-clause-ready g c bytes is holds =
     let s = c.self.inside in
-    let len = c.len-len.ensures ∙ s.piece.ok.0 in
+    let len = c.len-len.ensures ∙ s.window.piece.ok.0 in
     still_ready bytes s c.args.self.now c.self.view_is c.self.invariant.used_within
     (elim c.then-len-self-ge-VARINT_LEN.branch [
       | then-len-self-ge-VARINT_LEN-via-then-len-self-ge-VARINT_LEN w ↦ inl (omega (arith, len, w.if-len-self-ge-VARINT_LEN.true))
@@ -18,14 +19,13 @@ returns-then-len-self-ge-VARINT_LEN-clause-ready g c bytes is holds =
 pub returns-clause-ready : goal.returns-clause-ready
 returns-clause-ready g c bytes is holds =
     let s = c.self.inside in
-    let at : ℕ = s.start + s.used in
+    let at : ℕ = c.read.new.self.start + 0 in
     let len : ℕ = c.min-len.result in
-    let m : ℕ = s.stop - (at + 0) in
-    let piece : List ℕ = c.in_ok-self-inside.field-0.items in
-    let read = shown (λ b. piece ≡ part_of b at len) (g.S.Store.model c.args.store.now) bytes is c.in_ok-self-inside.ensures.bytes in
-    new_piece bytes piece (at + 0) m len (omega (arith, c.min.ensures, c.min-len.ensures))
+    let piece : List ℕ = c.read.new.self.piece.items in
+    on_ok c.read.result (λ read. new_piece bytes piece at (s.stop - at) len (omega (arith, c.min.ensures, c.min-len.ensures, c.read.ensures.start))
     (elim (cases_lt len 5) [
-      | inl less ↦ inl (omega (arith, less, c.min.ensures, c.min-len.ensures, c.self.invariant.room))
+      | inl less ↦ inl (omega (arith, less, c.min.ensures, c.min-len.ensures, c.self.invariant.room, c.read.ensures.start))
       | inr more ↦ inr more
     ])
-    (read ∙ ap (λ n. part_of bytes n len) (let z : at ≡ at + 0 = omega arith in z))
+    (read ∙ ap (λ n. part_of bytes n len) (let z : s.window.start + s.used ≡ at = omega (arith, c.read.ensures.start) in z)))
+    (c.read.ensures.piece bytes is (list_from bytes s c.args.self.now c.self.view_is holds))

@@ -11,12 +11,12 @@ pub returns-in-Id : goal.returns-in-Id
 returns-in-Id c bytes =
     let s = c.self.inside in
     begins_next bytes s c.args.self.now c.self.view_is c.in-Id.id c.in-Id.field-1 c.if-self.false
-    (step_there s.decoder s.used s.piece.items c.deref.result.now (Id c.in-Id.id c.in-Id.field-1) c.deref.ensures.value
+    (step_there s.decoder s.used s.window.piece.items c.deref.result.now (Id c.in-Id.id c.in-Id.field-1) c.deref.ensures.value
     c.in-Id.ensures)
 
 pub returns-in-End : goal.returns-in-End
 returns-in-End c bytes =
     let s = c.self.inside in
     begins_end bytes s c.args.self.now c.self.view_is s.decoder.name_count c.in-End.field-0 c.if-self.false
-    (step_there s.decoder s.used s.piece.items c.deref.result.now (End c.in-End.field-0) c.deref.ensures.value
+    (step_there s.decoder s.used s.window.piece.items c.deref.result.now (End c.in-End.field-0) c.deref.ensures.value
     c.in-End.ensures)

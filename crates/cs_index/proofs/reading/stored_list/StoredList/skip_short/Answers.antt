@@ -21,7 +21,7 @@ returns-clause-skips c bytes holds =
     (state_of (moved s len (s.decoder.left - length ids) (s.decoder.next + n)))) (sym e.stream.follows)
     (ids_skipped bytes c.args.end _ c.args.self.now _
     (run_taken bytes c.args.end len ids (drop len part) s c.args.self.now c.self.view_is c.if-self.false c.self.invariant
-    (sym (piece_is s.piece.items piece s.used c.deref.ensures.value) ∙ sym (take-append-drop len part)
+    (sym (piece_is s.window.piece.items piece s.used c.deref.ensures.value) ∙ sym (take-append-drop len part)
     ∙ ap (λ (p : List ℕ). p ++ drop len part) e.stream.written)
     (omega (arith, size, written, e.within)) e.stream.rise (omega (arith, e.stream.counted, e.bound))
     (omega (arith, e.stream.follows, e.below, c.min-end.ensures, c.if-end-self.false))

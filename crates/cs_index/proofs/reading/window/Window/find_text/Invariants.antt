@@ -1,6 +1,6 @@
 use Rattle.std.proofs.Common.{◌≡◌, ◌≤◌, ◌-◌, ℕ, List, Some, length}
-use Rattle.cs_index.specs.Pieces.{IsPiece, StandsAt}
-use Rattle.cs_index.proofs.reading.piece.Piece.find_text.Given as goal
+use Rattle.cs_index.specs.Windows.{IsPiece, StandsAt}
+use Rattle.cs_index.proofs.reading.window.Window.find_text.Given as goal
 
 abbrev pub invariant-pieces : goal.invariant-pieces
 invariant-pieces g l = record {

@@ -12,7 +12,7 @@ COMMENT, CLAUSE = 100, 110
 TYPE = re.compile(r"^\s*(?:pub(?:\(\w+\))? )?(?:struct|enum|trait|union) (\w+)", re.M)
 DEFINITION = re.compile(r"^(?:(?:abbrev|unfoldable|pub|record|data) )+([\w']+)[^\n]* : ", re.M)
 # Names that are given twice and are still to be replaced.
-TWICE = {"Listed"}
+TWICE = set()
 
 
 def wide(path, text):

@@ -7,6 +7,5 @@ mod ListedLemmas
 mod ShownLemmas
 mod ScopeLemmas
 mod ProjectLemmas
-mod HandedLemmas
 mod Examples
 mod CallLemmas

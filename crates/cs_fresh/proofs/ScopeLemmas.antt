@@ -1,103 +1,20 @@
 -- What words name, one after another.
 use denote.Ref.{Bor}
-use Rattle.std.proofs.Common.{◌≡◌, ◌≢◌, ℕ, ◌+◌, ◌<◌, length, get_or, take, true, false, List, [], ◌∷◌, ◌++◌, Option, Some, None, Result, Ok, Err, refl, sym, ap, subst, ◌∙◌, append_assoc, append-nil}
-use Rattle.std.specs.Prelude.{is_ok}
+use Rattle.std.proofs.Common.{◌≡◌, ℕ, ◌+◌, ◌<◌, length, get_or, take, true, false, List, [], ◌∷◌, ◌++◌, Option, Some, None, refl, sym, ap, subst, ◌∙◌, append_assoc, append-nil}
 use Rattle.std.specs.Path.{slash}
-use Rattle.std.specs.Result.{result_map_both}
 use Rattle.std.proofs.lemmas.Bool.{false≢true}
 use Rattle.std.proofs.lemmas.List.{get_or_default}
 use Rattle.cs_tree.proofs.NameLemmas.{mapped_more}
 use Rattle.cs_tree.specs.PathParts.{texts}
 use Rattle.cs_tree.specs.Snapshot.{Item, Snapshot, item_at, folder, file, cut, other, bad}
 use Rattle.cs_tree.specs.Clean.{clean_path}
-use Rattle.cs_tree.specs.Trees.{Answers, OrMemory, kind_of}
-use Rattle.cs_tree.specs.declared.fault.TreeFault.{TreeFault}
-use Rattle.cs_tree.specs.declared.fault.TreeFault.TheVariants as tree
-use Rattle.cs_tree.specs.declared.tree.Kind.{Kind}
-use Rattle.cs_tree.specs.declared.tree.Kind.TheVariants.{Folder, File, Other}
 use Rattle.cs_listing.specs.Choices.{Settings}
 use Rattle.cs_listing.specs.FolderReads.{InTree}
 use Rattle.cs_listing.specs.Listing.{TreeItems}
-use Rattle.cs_fresh.specs.Scopes.{AreAllNamed, AreAt, AreFilesBelow, AreMeant, AreNamed, ForItems, is_entered, is_folder, is_there, leads_to_folder, operand}
+use Rattle.cs_fresh.specs.Scopes.{AreAllNamed, AreAt, AreFilesBelow, AreNamed, ForItems, is_entered, is_there, leads_to_folder, operand}
 use Rattle.cs_fresh.specs.Searched.{NamedItem}
-use Rattle.cs_fresh.specs.Walked.{IsKindAt, IsPathOf}
-use Rattle.cs_fresh.specs.declared.places.PathKind.{PathKind}
+use Rattle.cs_fresh.specs.Walked.{IsPathOf}
 use Rattle.cs_fresh.specs.declared.places.PathKind.TheVariants as kind
-
--- ---- what is at a path
-
--- what the kind of an item says
-abbrev IsOfKind : Item → Kind → Type 0
-IsOfKind item Folder = is_folder item ≡ true
-IsOfKind item File = (is_there item ≡ true) × ((entered : Item) → is_entered item entered ≡ false)
-IsOfKind item Other = item ≡ other
-
-of_kind : (item : Item) (k : Kind) → kind_of item ≡ Ok k → IsOfKind item k
-of_kind (folder names unnamed) Folder e = refl
-of_kind (folder names unnamed) File e = absurd (cc)
-of_kind (folder names unnamed) Other e = absurd (cc)
-of_kind (file bytes) Folder e = absurd (cc)
-of_kind (file bytes) File e = (refl, λ entered. refl)
-of_kind (file bytes) Other e = absurd (cc)
-of_kind (cut bytes) Folder e = absurd (cc)
-of_kind (cut bytes) File e = (refl, λ entered. refl)
-of_kind (cut bytes) Other e = absurd (cc)
-of_kind other Folder e = absurd (cc)
-of_kind other File e = absurd (cc)
-of_kind other Other e = refl
-of_kind (bad fault) k e = absurd (false≢true (ap is_ok e))
-
--- no item is there that has an error
-gone : (item : Item) (fault : TreeFault) → kind_of item ≡ Err fault → is_there item ≡ false
-gone (folder names unnamed) fault e = absurd (false≢true (sym (ap is_ok e)))
-gone (file bytes) fault e = absurd (false≢true (sym (ap is_ok e)))
-gone (cut bytes) fault e = absurd (false≢true (sym (ap is_ok e)))
-gone other fault e = absurd (false≢true (sym (ap is_ok e)))
-gone (bad it) fault e = refl
-
--- an answer of `kind`
-abbrev pub SaysKind : Option Snapshot → List ℕ → Result Kind TreeFault → Type 0
-SaysKind snapshot path result = Answers (λ (kind : Kind). kind) snapshot kind_of path result
-
-folder_enters : (item entered : Item) → is_folder item ≡ true → is_entered item entered ≡ true
-folder_enters (folder names unnamed) entered e = refl
-folder_enters (file bytes) entered e = absurd (false≢true e)
-folder_enters (cut bytes) entered e = absurd (false≢true e)
-folder_enters other entered e = absurd (false≢true e)
-folder_enters (bad fault) entered e = absurd (false≢true e)
-
-pub folder_is : (snapshot : Option Snapshot) (path : List ℕ) (result : Result Kind TreeFault) → SaysKind snapshot path result →
-    result ≡ Ok Folder → InTree snapshot (λ items. IsKindAt items path kind.Folder)
-folder_is None path result says is = tt
-folder_is (Some tree) path result says is =
-    let e : kind_of (item_at tree path) ≡ Ok Folder = subst (λ r. OrMemory (result_map_both (λ (k : Kind). k) (λ (f : TreeFault). f) r) (kind_of (item_at tree path))) is says in
-    folder_enters (item_at tree path) (item_at tree (path ++ slash ∷ [])) (of_kind (item_at tree path) Folder e)
-
-pub file_is : (snapshot : Option Snapshot) (path : List ℕ) (result : Result Kind TreeFault) → SaysKind snapshot path result →
-    result ≡ Ok File → InTree snapshot (λ items. IsKindAt items path kind.File)
-file_is None path result says is = tt
-file_is (Some tree) path result says is =
-    let e : kind_of (item_at tree path) ≡ Ok File = subst (λ r. OrMemory (result_map_both (λ (k : Kind). k) (λ (f : TreeFault). f) r) (kind_of (item_at tree path))) is says in
-    let of = of_kind (item_at tree path) File e in
-    (of.0, of.1 (item_at tree (path ++ slash ∷ [])))
-
-pub other_is : (snapshot : Option Snapshot) (path : List ℕ) (result : Result Kind TreeFault) (found : PathKind) →
-    SaysKind snapshot path result → result ≡ Ok Other →
-    InTree snapshot (λ items. items path ≡ other → IsKindAt items path found) →
-    InTree snapshot (λ items. IsKindAt items path found)
-other_is None path result found says is then = tt
-other_is (Some tree) path result found says is then =
-    then (of_kind (item_at tree path) Other (subst (λ r. OrMemory (result_map_both (λ (k : Kind). k) (λ (f : TreeFault). f) r) (kind_of (item_at tree path))) is says))
-
-pub unread_is : (snapshot : Option Snapshot) (path : List ℕ) (result : Result Kind TreeFault) (fault : TreeFault) →
-    SaysKind snapshot path result → result ≡ Err fault → fault ≢ tree.Memory →
-    InTree snapshot (λ items. IsKindAt items path (kind.Unread fault))
-unread_is None path result fault says is some = tt
-unread_is (Some t) path result tree.Memory says is some = absurd (some refl)
-unread_is (Some t) path result tree.Missing says is some = gone (item_at t path) tree.Missing (subst (λ r. OrMemory (result_map_both (λ (k : Kind). k) (λ (f : TreeFault). f) r) (kind_of (item_at t path))) is says)
-unread_is (Some t) path result tree.Denied says is some = gone (item_at t path) tree.Denied (subst (λ r. OrMemory (result_map_both (λ (k : Kind). k) (λ (f : TreeFault). f) r) (kind_of (item_at t path))) is says)
-unread_is (Some t) path result tree.Output says is some = gone (item_at t path) tree.Output (subst (λ r. OrMemory (result_map_both (λ (k : Kind). k) (λ (f : TreeFault). f) r) (kind_of (item_at t path))) is says)
-unread_is (Some t) path result tree.Failed says is some = gone (item_at t path) tree.Failed (subst (λ r. OrMemory (result_map_both (λ (k : Kind). k) (λ (f : TreeFault). f) r) (kind_of (item_at t path))) is says)
 
 -- ---- what words name
 
@@ -123,11 +40,6 @@ texts_more words i none low = mapped_more (λ (word : Bor (List ℕ)). word.now)
 -- Some words were taken in their order, and this holds of what they name.
 abbrev pub HasNamed : Option Snapshot → Settings → List ℕ → List (List ℕ) → (List NamedItem → Type 0) → Type 0
 HasNamed snapshot settings here words P = InTree snapshot (λ items. ForItems (AreAllNamed items settings here words) P)
-
-pub named_begins : (snapshot : Option Snapshot) (settings : Settings) (here : List ℕ) (P : List NamedItem → Type 0) → P [] →
-    HasNamed snapshot settings here [] P
-named_begins None settings here P none = tt
-named_begins (Some tree) settings here P none = ([], refl, none)
 
 -- one more word
 pub named_more : (snapshot now : Option Snapshot) (settings : Settings) (here : List ℕ) (words : List (List ℕ)) (word : List ℕ)
@@ -189,27 +101,3 @@ file_named (Some tree) now settings here word path P same is has =
       ),
       subst (λ s. InTree s (λ items. P ((word, items path) ∷ []))) same has,
     )
-
--- ---- scopes
-
--- without words
-pub meant_folder : (snapshot : Option Snapshot) (settings : Settings) (here path word : List ℕ) (words : List (List ℕ))
-    (P : List NamedItem → Type 0) → words ≡ [] → path ≡ here → word ≡ [] →
-    InTree snapshot (λ items. ForItems (AreFilesBelow items settings path word) P) →
-    InTree snapshot (λ items. ForItems (AreMeant items settings here words) P)
-meant_folder None settings here path word words P none at current has = tt
-meant_folder (Some tree) settings here path word words P none at current has = (
-  has.0,
-  subst (λ all. AreMeant (item_at tree) settings here all has.0) (sym none)
-      (subst (λ w. AreFilesBelow (item_at tree) settings here w has.0) current
-      (subst (λ p. AreFilesBelow (item_at tree) settings p word has.0) at has.1)),
-  has.2,
-)
-
--- with words
-pub meant_words : (snapshot : Option Snapshot) (settings : Settings) (here : List ℕ) (words : List (List ℕ))
-    (P : List NamedItem → Type 0) → words ≢ [] → HasNamed snapshot settings here words P →
-    InTree snapshot (λ items. ForItems (AreMeant items settings here words) P)
-meant_words None settings here words P some has = tt
-meant_words (Some tree) settings here [] P some has = absurd (some refl)
-meant_words (Some tree) settings here (word ∷ words) P some has = has

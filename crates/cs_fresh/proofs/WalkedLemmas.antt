@@ -1,14 +1,13 @@
 -- Files that a walk has given so far.
-use Rattle.std.proofs.Common.{◌≡◌, ℕ, ◌+◌, ◌*◌, ◌<◌, ◌≤◌, inl, inr, Bool, false, List, [], ◌∷◌, ◌++◌, map, length, Option, Some, None, refl, sym, ap, subst, ◌∙◌, arith}
+use Rattle.std.proofs.Common.{◌≡◌, ℕ, ◌+◌, ◌*◌, Bool, false, List, [], ◌∷◌, ◌++◌, map, length, Option, Some, None, refl, sym, ap, subst, ◌∙◌}
 use Rattle.std.specs.Prelude.{string_bytes}
-use Rattle.std.proofs.lemmas.List.{length-append, map-append}
+use Rattle.std.proofs.lemmas.List.{map-append}
 use Rattle.cs_tree.specs.Snapshot.{Snapshot, item_at}
 use Rattle.cs_listing.specs.FolderReads.{InTree}
 use Rattle.cs_listing.specs.Choices.{Settings, within_depth}
 use Rattle.cs_listing.specs.Listing.{TreeItems, is_found}
 use Rattle.cs_listing.specs.PathNames.{names_along}
-use Rattle.cs_listing.specs.Walk.{TakesFirst, GivesAll, GivesInOrder, Gives, IsWalkIn, is_left, path_text, ComesNearer, walk_weight, unread_in}
-use Rattle.cs_listing.specs.declared.fault.Unread.{Unread}
+use Rattle.cs_listing.specs.Walk.{TakesFirst, GivesAll, GivesInOrder, Gives, IsWalkIn, is_left, path_text, walk_weight, unread_in}
 use Rattle.cs_listing.specs.declared.walk.File.{File}
 use Rattle.cs_listing.specs.declared.walk.Found.{Found}
 use Rattle.cs_listing.specs.declared.walk.Found.TheVariants as found
@@ -72,21 +71,9 @@ StillLeft items old new = IsWalkIn items new × ((path : List (List ℕ)) → is
 abbrev pub HasLeft : Option Snapshot → Walk → Walk → Type 0
 HasLeft snapshot first walk = InTree snapshot (λ items. IsWalkIn items first → StillLeft items first walk)
 
-pub left_begins : (snapshot : Option Snapshot) (walk : Walk) → HasLeft snapshot walk walk
-left_begins None walk = tt
-left_begins (Some tree) walk = λ within. (within, λ path. refl)
-
 -- what a call of `next` gives
 abbrev pub NextGives : Option Snapshot → Walk → Walk → Option Found → Type 0
 NextGives snapshot walk next given = InTree snapshot (λ items. IsWalkIn items walk → Gives items walk next given)
-
-pub left_goes_on : (snapshot now : Option Snapshot) (first walk next : Walk) (one : Unread) → now ≡ snapshot →
-    HasLeft snapshot first walk → NextGives now walk next (Some (found.Unread one)) → HasLeft snapshot first next
-left_goes_on None now first walk next one same has gives = tt
-left_goes_on (Some tree) now first walk next one same has gives = λ within.
-    let before = has within in
-    let given = (subst (λ s. NextGives s walk next (Some (found.Unread one))) same gives) before.0 in
-    (given.0, λ path. given.1 path ∙ before.1 path)
 
 -- what a walk of a folder gives
 abbrev pub GivesIn : Option Snapshot → FolderWalk → FolderWalk → Option NamedPath → Type 0
@@ -110,32 +97,10 @@ file_given (Some tree) now first walk next one named same has gives at is = λ w
       ),
     )
 
-pub end_given : (snapshot now : Option Snapshot) (first walk next : FolderWalk) → now ≡ snapshot →
-    HasLeft snapshot first.walk walk.walk → NextGives now walk.walk next.walk None → GivesIn snapshot first next None
-end_given None now first walk next same has gives = tt
-end_given (Some tree) now first walk next same has gives = λ within.
-    let before = has within in
-    let given = (subst (λ s. NextGives s walk.walk next.walk None) same gives) before.0 in
-    (given.0, λ path. sym (before.1 path) ∙ given.1 path)
-
 -- ---- the loop ends
 
 abbrev pub walk_measure : Walk → ℕ
 walk_measure walk = walk_weight walk * 18446744073709551616 + length (unread_in walk)
-
-few : (walk : Walk) → length (unread_in walk) < 18446744073709551616
-few walk = omega (arith, walk.reader.unread.ok.0, walk.reader.unread.ok.1, walk.reader.unread.small)
-
-pub nearer_ends : (old new : Walk) (one : Unread) → ComesNearer old new (Some (found.Unread one)) → walk_measure new < walk_measure old
-nearer_ends old new one (inl lighter) = omega (arith, lighter, few new)
-nearer_ends old new one (inr left) =
-    let less : length (unread_in old) ≡ length (unread_in new) + 1 =
-    omega (arith, ap length left.1, length-append (unread_in new) (one ∷ [])) in
-    omega (arith, left.0, less)
-
-pub nearer_weighs : (old new : Walk) (one : Unread) → ComesNearer old new (Some (found.Unread one)) → walk_weight new ≤ walk_weight old
-nearer_weighs old new one (inl lighter) = omega (arith, lighter)
-nearer_weighs old new one (inr left) = omega (arith, left.0)
 
 -- ---- files one after another
 
@@ -144,10 +109,6 @@ abbrev pub HasTaken : Option Snapshot → FolderWalk → FolderWalk → (List Na
 HasTaken snapshot first walk P = InTree snapshot (λ items. IsWalkIn items first.walk → (paths : List (List (List ℕ)))
     × IsWalkIn items walk.walk × Takes (is_left first.walk items) paths (is_left walk.walk items)
     × P (map (named_item items first.form) paths))
-
-pub taken_begins : (snapshot : Option Snapshot) (walk : FolderWalk) (P : List NamedItem → Type 0) → P [] → HasTaken snapshot walk walk P
-taken_begins None walk P none = tt
-taken_begins (Some tree) walk P none = λ within. ([], within, λ path. refl, none)
 
 -- one more file
 pub taken_more : (snapshot now : Option Snapshot) (first walk next : FolderWalk) (P Q : List NamedItem → Type 0) (one : NamedPath) →

@@ -1,11 +1,11 @@
--- Choices one after another, and types that are not there.
+-- Choices one after another, and types and globs that are none.
 use Rattle.std.proofs.Common.{◌≡◌, false, List, [], ◌∷◌, ◌++◌, length, refl, subst, inl, inr, arith}
 use Rattle.std.specs.Prelude.{Option, Some, None}
 use Rattle.std.specs.List.{filter_map, list_any, cons_option}
 use Rattle.std.specs.Option.{option_to_list}
 use Rattle.cs_listing.specs.Choices.{Settings}
 use Rattle.cs_project.specs.declared.words.WordItem.{WordItem}
-use Rattle.cs_command.specs.Choices.{Choice, Chooses, ChoosesAll, is_type_at, IsTypeIn}
+use Rattle.cs_command.specs.Choices.{Choice, Chooses, ChoosesAll, is_fault_of, IsChoiceIn}
 use Rattle.std.proofs.lemmas.Bool.{or_cases, or_left, or_right, false≢true}
 use Rattle.cs_command.specs.declared.fault.RequestFault.{RequestFault}
 
@@ -26,17 +26,14 @@ pub no_choice : {A : Type 0} (choice : A → Option Choice) (items : List A) (ol
 no_choice choice [] old none = refl
 no_choice choice (item ∷ items) old none = absurd (omega (arith, none))
 
--- ---- types
+-- ---- types and globs
 
-pub type_in_first : (item : WordItem) (items : List WordItem) (fault : RequestFault) → IsTypeIn (item ∷ []) fault → IsTypeIn (item ∷ items) fault
-type_in_first item items fault (part, is, found) = (
-  part,
-  is,
-  elim (or_cases (is_type_at part item) false found) [
-    | inl here ↦ or_left (is_type_at part item) (list_any (is_type_at part) items) here
-    | inr nowhere ↦ absurd (false≢true nowhere)
-  ],
-)
+pub type_in_first : (item : WordItem) (items : List WordItem) (fault : RequestFault) → IsChoiceIn (item ∷ []) fault → IsChoiceIn (item ∷ items) fault
+type_in_first item items fault found =
+    elim (or_cases (is_fault_of fault item) false found) [
+      | inl here ↦ or_left (is_fault_of fault item) (list_any (is_fault_of fault) items) here
+      | inr nowhere ↦ absurd (false≢true nowhere)
+    ]
 
-pub type_in_more : (item : WordItem) (items : List WordItem) (fault : RequestFault) → IsTypeIn items fault → IsTypeIn (item ∷ items) fault
-type_in_more item items fault (part, is, found) = (part, is, or_right (is_type_at part item) (list_any (is_type_at part) items) found)
+pub type_in_more : (item : WordItem) (items : List WordItem) (fault : RequestFault) → IsChoiceIn items fault → IsChoiceIn (item ∷ items) fault
+type_in_more item items fault found = or_right (is_fault_of fault item) (list_any (is_fault_of fault) items) found

@@ -3,8 +3,7 @@
 use Rattle.std.specs.Prelude.{ℕ, ◌≡◌, ◌++◌, ◌&&◌, nat_eq, Bool, true, false, if◌then◌else◌, List, [], ◌∷◌, Option, Some, None}
 use Rattle.std.specs.List.{filter_map, list_any}
 use Rattle.std.specs.Option.{option_to_list}
-use Rattle.cs_listing.specs.Choices.{Settings, AddsType}
-use Rattle.cs_listing.specs.RuleFiles.{rule_in}
+use Rattle.cs_listing.specs.Choices.{Settings, AddsGlob, AddsType}
 use Rattle.cs_project.specs.declared.named.Valued.{Valued}
 use Rattle.cs_project.specs.declared.named.Valued.TheVariants as valued
 use Rattle.cs_project.specs.declared.settings.FileChoice.{FileChoice}
@@ -13,7 +12,7 @@ use Rattle.cs_project.specs.declared.words.WordItem.TheVariants as item
 use Rattle.cs_command.specs.Options.{part_of}
 use Rattle.cs_command.specs.Values.{text_of}
 use Rattle.cs_command.specs.declared.fault.RequestFault.{RequestFault}
-use Rattle.cs_command.specs.declared.fault.RequestFault.TheVariants.{NoType}
+use Rattle.cs_command.specs.declared.fault.RequestFault.TheVariants.{NoType, NoGlob}
 use Rattle.cs_command.specs.declared.options.WordPart.{WordPart}
 
 pub data Choice : Type 0 where
@@ -61,7 +60,7 @@ abbrev pub Chooses : Choice → Settings → Settings → Type 0
 Chooses hidden old new = new ≡ record old { takes_hidden = true }
 Chooses ignored old new = new ≡ record old { takes_hidden = true; takes_ignored = true }
 Chooses (depth names) old new = new ≡ record old { most_names = names }
-Chooses (glob text) old new = new ≡ record old { globs = old.globs ++ option_to_list (rule_in text) }
+Chooses (glob text) old new = AddsGlob text true old new
 Chooses (of_type name is_left_out) old new = AddsType true is_left_out old new
 
 -- choices one after another
@@ -69,12 +68,17 @@ abbrev pub ChoosesAll : List Choice → Settings → Settings → Type 0
 ChoosesAll [] old new = new ≡ old
 ChoosesAll (choice ∷ choices) old new = (between : Settings) × Chooses choice old between × ChoosesAll choices between new
 
--- whether an item is the value of -t or of -T at this part of a word
-abbrev pub is_type_at : WordPart → WordItem → Bool
-is_type_at part (item.Value valued.FileType word from) = nat_eq word part.word && nat_eq from part.from
-is_type_at part (item.Value valued.NotType word from) = nat_eq word part.word && nat_eq from part.from
-is_type_at part _ = false
+-- whether this is the part of a word
+abbrev pub is_part : WordPart → ℕ → ℕ → Bool
+is_part part word from = nat_eq word part.word && nat_eq from part.from
 
--- the error of a type that one of the items names
-abbrev pub IsTypeIn : List WordItem → RequestFault → Type 0
-IsTypeIn items fault = (part : WordPart) × (fault ≡ NoType part) × (list_any (is_type_at part) items ≡ true)
+-- whether an error is that of an item, which is the value of -t or -T, or of -g
+abbrev pub is_fault_of : RequestFault → WordItem → Bool
+is_fault_of (NoType part) (item.Value valued.FileType word from) = is_part part word from
+is_fault_of (NoType part) (item.Value valued.NotType word from) = is_part part word from
+is_fault_of (NoGlob part) (item.Value valued.Glob word from) = is_part part word from
+is_fault_of _ _ = false
+
+-- the error of a type or a glob that one of the items names
+abbrev pub IsChoiceIn : List WordItem → RequestFault → Type 0
+IsChoiceIn items fault = list_any (is_fault_of fault) items ≡ true

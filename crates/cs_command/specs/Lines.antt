@@ -11,7 +11,7 @@ use Rattle.cs_syntax.specs.declared.fault.PatternFault.{PatternFault}
 use Rattle.cs_command.specs.Options.{part_of}
 use Rattle.cs_command.specs.Values.{text_of}
 use Rattle.cs_command.specs.declared.fault.RequestFault.{RequestFault}
-use Rattle.cs_command.specs.declared.fault.RequestFault.TheVariants.{Item, NoIndex, NoNumber, NoColour, NoType, NoPattern, BadPattern, Memory}
+use Rattle.cs_command.specs.declared.fault.RequestFault.TheVariants.{Item, NoIndex, NoNumber, NoColour, NoType, NoGlob, NoPattern, BadPattern, Memory}
 
 -- what is wrong, and with what
 abbrev pub line_about : List ℕ → List ℕ → List ℕ
@@ -71,6 +71,7 @@ lines_of words (NoIndex switch) = line_about (index_option switch) (codes "cs ke
 lines_of words (NoNumber part) = line_about (codes "not a number") (text_of words part)
 lines_of words (NoColour part) = line_about (codes "not always, never or auto") (text_of words part)
 lines_of words (NoType part) = line_about (codes "no such type (cs --type-list)") (text_of words part)
+lines_of words (NoGlob part) = line_about (codes "not a glob") (text_of words part)
 lines_of words NoPattern = line_of (codes "no pattern (cs --help)")
 lines_of words (BadPattern part error) = pattern_lines (text_of words part) error
 lines_of words Memory = line_of (codes "out of memory")

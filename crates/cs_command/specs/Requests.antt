@@ -9,7 +9,7 @@ use Rattle.cs_project.specs.declared.letter_case.LetterCase.{LetterCase}
 use Rattle.cs_project.specs.declared.settings.Limits.{Limits}
 use Rattle.cs_project.specs.declared.settings.Switches.{Switches}
 use Rattle.cs_project.specs.declared.words.WordItem.{WordItem}
-use Rattle.cs_command.specs.Choices.{Choice, choices_of, ChoosesAll, IsTypeIn}
+use Rattle.cs_command.specs.Choices.{Choice, choices_of, ChoosesAll, IsChoiceIn}
 use Rattle.cs_command.specs.Options.{options_of}
 use Rattle.cs_command.specs.Patterns.{pattern_in}
 use Rattle.cs_command.specs.Texts.{TextsView, needs_pattern, texts_of}
@@ -80,7 +80,7 @@ IsRequestBy wanted base request =
 
 -- an error that is wanted, or a type that is not there; which types there are is not said
 abbrev pub IsFaultBy : Result RequestView RequestFault → List WordItem → RequestFault → Type 0
-IsFaultBy wanted items fault = fault ≢ Memory → (wanted ≡ Err fault) ⊎ IsTypeIn items fault
+IsFaultBy wanted items fault = fault ≢ Memory → (wanted ≡ Err fault) ⊎ IsChoiceIn items fault
 
 -- the request of words
 abbrev pub IsRequest : List (List ℕ) → Settings → Request → Type 0
@@ -89,4 +89,4 @@ IsRequest words base request = IsRequestBy (request_of words) base request
 -- the error of words
 abbrev pub IsRequestFault : List (List ℕ) → RequestFault → Type 0
 IsRequestFault words fault =
-    fault ≢ Memory → (request_of words ≡ Err fault) ⊎ ((items : List WordItem) × (items_of words ≡ Ok items) × IsTypeIn items fault)
+    fault ≢ Memory → (request_of words ≡ Err fault) ⊎ ((items : List WordItem) × (items_of words ≡ Ok items) × IsChoiceIn items fault)

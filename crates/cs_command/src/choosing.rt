@@ -3,10 +3,10 @@ ghost use Rattle.std.specs.Prelude.{◌≡◌, ◌≢◌, map, string_bytes, Ok,
 ghost use Rattle.std.specs.List.{filter_map};
 ghost use Rattle.cs_listing.specs.Models.{chosen_in};
 ghost use Rattle.std.specs.Option.{option_to_list};
-ghost use Rattle.cs_listing.specs.Choices.{AddsType};
-ghost use Rattle.cs_command.specs.Choices.{ChoosesAll, hidden_if, ignored_if, depth_of, choices_by, choice_by, choice_in, IsTypeIn};
+ghost use Rattle.cs_listing.specs.Choices.{AddsGlob, AddsType};
+ghost use Rattle.cs_command.specs.Choices.{ChoosesAll, hidden_if, ignored_if, depth_of, choices_by, choice_by, choice_in, IsChoiceIn};
 ghost use Rattle.cs_command.specs.Values.{text_of};
-ghost use Rattle.cs_command.specs.declared.fault.RequestFault.TheVariants.{Memory, NoType};
+ghost use Rattle.cs_command.specs.declared.fault.RequestFault.TheVariants.{Memory, NoGlob, NoType};
 ghost use Rattle.cs_project.specs.declared.words.WordItem.TheVariants.{Value};
 
 use crate::fault::RequestFault;
@@ -59,7 +59,7 @@ pub(crate) fn choose_names(
 ) -> Result<(), RequestFault>
     ensures all { OnOk result (ChoosesAll (filter_map (choice_in (map string_bytes words.now)) items.now)
         (chosen_in choices.old) (chosen_in choices.new)) }
-    ensures fault { IfErr result (λ fault. fault ≢ Memory → IsTypeIn items.now fault) }
+    ensures fault { IfErr result (λ fault. fault ≢ Memory → IsChoiceIn items.now fault) }
 {
     let mut rest = items;
     'items: while let Some((item, behind)) = rest.split_first() {
@@ -73,7 +73,7 @@ pub(crate) fn choose_names(
 fn choose_by(choices: &mut Choices, words: &[String], item: WordItem) -> Result<(), RequestFault>
     ensures chosen { OnOk result (ChoosesAll (option_to_list (choice_in (map string_bytes words.now) item))
         (chosen_in choices.old) (chosen_in choices.new)) }
-    ensures fault { IfErr result (λ fault. fault ≢ Memory → IsTypeIn (item ∷ []) fault) }
+    ensures fault { IfErr result (λ fault. fault ≢ Memory → IsChoiceIn (item ∷ []) fault) }
 {
     match item {
         WordItem::Value(valued, word, from) => {
@@ -94,14 +94,26 @@ fn choose(
         (option_to_list (choice_by valued (text_of (map string_bytes words.now) part)))
         (chosen_in choices.old) (chosen_in choices.new)) }
     ensures fault { IfErr result (λ fault. fault ≢ Memory →
-        IsTypeIn (Value valued part.word part.from ∷ []) fault) }
+        IsChoiceIn (Value valued part.word part.from ∷ []) fault) }
 {
     let text = text_of(words, part);
     match valued {
-        Valued::Glob => Ok(choices.add_glob(text)?),
+        Valued::Glob => choose_glob(choices, text, part),
         Valued::FileType => choose_type(choices, text, false, part),
         Valued::NotType => choose_type(choices, text, true, part),
         _ => Ok(()),
+    }
+}
+
+/// Chooses by a glob, which is the value at `part`.
+fn choose_glob(choices: &mut Choices, text: &str, part: WordPart) -> Result<(), RequestFault>
+    ensures added { OnOk result (AddsGlob text.now true (chosen_in choices.old) (chosen_in choices.new)) }
+    ensures fault { IfErr result (λ fault. fault ≢ Memory → fault ≡ NoGlob part) }
+{
+    if choices.add_glob(text)? {
+        Ok(())
+    } else {
+        Err(RequestFault::NoGlob(part))
     }
 }
 

@@ -18,6 +18,8 @@ pub enum RequestFault {
     NoColour(WordPart),
     /// There is no such type of files, as in `-t zz`.
     NoType(WordPart),
+    /// The braces of a glob do not match, as in `-g '{a'`, or it has too many alternatives.
+    NoGlob(WordPart),
     /// There is no pattern.
     NoPattern,
     /// A pattern has an error, or is too large beside those before it.

@@ -36,6 +36,7 @@ pub fn fault_line(
         RequestFault::NoType(part) => {
             line_about(alloc, "no such type (cs --type-list)", text_of(words, part))
         }
+        RequestFault::NoGlob(part) => line_about(alloc, "not a glob", text_of(words, part)),
         RequestFault::NoPattern => line_of(alloc, "no pattern (cs --help)"),
         RequestFault::BadPattern(part, error) => pattern_lines(alloc, text_of(words, part), error),
         RequestFault::Memory => line_of(alloc, "out of memory"),

@@ -7,7 +7,7 @@ use Rattle.cs_project.specs.Project.{ItemShown, nothing_shown, text_shown}
 use Rattle.cs_project.specs.Shown.{between, count_of, following, is_binary, text_groups}
 use Rattle.cs_project.specs.declared.form.ShowOptions.{ShowOptions}
 use Rattle.cs_project.specs.declared.rows.Page.{Page}
-use Rattle.cs_project.specs.declared.search.Search.{Search}
+use Rattle.cs_project.specs.declared.search.LineSearch.{LineSearch}
 use Rattle.cs_tree.specs.Snapshot.{Item}
 use Rattle.cs_fresh.specs.Searched.{NamedItem, item_groups, shown_of, items_printed, are_marked, ShowsItems, KeepsForm}
 use Rattle.cs_fresh.specs.declared.file_search.FileSearch.{FileSearch}
@@ -67,7 +67,7 @@ pub shows_wrong : (old new : FileSearch) (texts : List NamedItem) (given later :
 shows_wrong old new texts given later wrong = λ right. absurd (false≢true (sym right ∙ wrong))
 
 -- a text that was read to its end
-item_printed : (old new : Search) (page : Page) (binary left_out : Bool) (text given later : List ℕ) (marked : Bool) →
+item_printed : (old new : LineSearch) (page : Page) (binary left_out : Bool) (text given later : List ℕ) (marked : Bool) →
     (is_binary text && not binary) ≡ left_out → PrintsItem old new page left_out text given later marked → new.stopped ≡ false →
     (finding : Finding) → IsFoundBy finding old →
     (later ≡ given ++ following (between page.options.now) page.begun

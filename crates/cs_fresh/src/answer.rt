@@ -15,7 +15,7 @@ use cs_command::{HELP, Request, RequestFault, fault_line, read_request};
 use cs_listing::{Choices, Rules, TYPES, path_names, user_rules};
 use cs_match::Program;
 use cs_output::Output;
-use cs_project::{Search, Surroundings, Task};
+use cs_project::{LineSearch, Surroundings, Task};
 use cs_tree::{Look, Sink, write_all};
 use std::alloc::{AllocError, Global};
 
@@ -226,7 +226,7 @@ fn files_for<'p, T: Look>(
     };
     let switches = &request.switches;
     let options = switches.shown_in(&request.limits, request.colour, place);
-    let lines = Search::new(call.alloc, program, switches.pattern.whole)?;
+    let lines = LineSearch::new(call.alloc, program, switches.pattern.whole)?;
     FileSearch::new(call.alloc, options, switches.files.binary, lines)
 }
 

@@ -7,7 +7,7 @@ ghost use Rattle.cs_fresh.specs.Sources.{IsStatusOf, ShowsSource};
 use crate::fault::FreshFault;
 use crate::reports::{Reports, status_of};
 use cs_output::Output;
-use cs_project::{Ended, Page, Search, ShowOptions, Window, print_file};
+use cs_project::{Ended, Page, LineSearch, ShowOptions, Window, print_file};
 use cs_tree::{Sink, Source, Tree, TreeReader};
 use std::alloc::{AllocError, Global};
 
@@ -17,7 +17,7 @@ pub struct FileSearch<'p> {
     pub(crate) options: ShowOptions,
     /// Binary files are searched too.
     pub(crate) binary: bool,
-    pub(crate) search: Search<'p>,
+    pub(crate) search: LineSearch<'p>,
     window: Window,
     /// The search ends at the first marked line.
     pub(crate) quick: bool,
@@ -32,7 +32,7 @@ impl<'p> FileSearch<'p> {
         alloc: Global,
         options: ShowOptions,
         binary: bool,
-        search: Search<'p>,
+        search: LineSearch<'p>,
     ) -> Result<FileSearch<'p>, AllocError>
         ensures options { IfOk result (λ files. files.options ≡ options) }
         ensures binary { IfOk result (λ files. files.binary ≡ binary) }

@@ -77,20 +77,6 @@ tool_of given = option_or (own_tool given) (option_and_then tool_named (slice_ge
 abbrev pub tool_args : Given → List (List ℕ)
 tool_args given = if is_none (own_tool given) then drop 1 (given_args given) else given_args given
 
--- The arguments of `cs`, if it is called: by its name, or by none of a tool and with its name as the first argument.
-abbrev pub first_is : List ℕ → List (List ℕ) → Option (List (List ℕ))
-first_is name [] = None
-first_is name (arg ∷ args) = if bytes_eq arg name then Some args else None
-
-abbrev pub is_named : List ℕ → Option (List ℕ) → Bool
-is_named name None = false
-is_named name (Some own) = bytes_eq own name
-
-abbrev pub project_args : Given → Option (List (List ℕ))
-project_args given =
-    if is_named (codes "cs") (path_file_name (string_bytes given.program)) then Some (given_args given)
-    else if is_none (own_tool given) then first_is (codes "cs") (given_args given) else None
-
 -- the current folder, if it begins with `/`
 abbrev pub absolute_folder : Given → Option (List ℕ)
 absolute_folder given =

@@ -1,6 +1,7 @@
 // What the arguments of the program mean: a tool, and its job.
 ghost use Rattle.std.specs.Prelude.{◌≡◌, [], Some, None, true, false, map, unwrap_or, IfOk, IfErr, IfSome, IsNone, MatchOption, option_copied, option_map, string_bytes};
-ghost use Rattle.codesearch.specs.Program.{IndexFile, tool_named, own_tool, tool_of, tool_args, project_args as project_args', absolute_folder, lacks_folder, IsCall, early_line, fault_line, is_of_lines, prints_lines, may_update};
+ghost use Rattle.codesearch.specs.ProjectArgs.{project_args as project_args'};
+ghost use Rattle.codesearch.specs.Program.{IndexFile, tool_named, own_tool, tool_of, tool_args, absolute_folder, lacks_folder, IsCall, early_line, fault_line, is_of_lines, prints_lines, may_update};
 
 use crate::given::Given;
 use crate::outcome::ProgramFault;

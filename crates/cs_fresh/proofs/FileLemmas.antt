@@ -87,6 +87,12 @@ item_gone (cut bytes) old new name given e same = absurd (false≢true (sym (ap 
 item_gone other old new name given e same = shows_nothing old new name other given (λ o b f. refl) same
 item_gone (bad fault) old new name given e same = shows_nothing old new name (bad fault) given (λ o b f. refl) same
 
+-- a file that was reported
+pub path_reported : (snapshot : Option Snapshot) (old new : FileSearch) (name path given later : List ℕ) → new.reports.wrong ≡ true →
+    ShowsPath old new name snapshot path given later
+path_reported None old new name path given later wrong = tt
+path_reported (Some tree) old new name path given later wrong = shows_wrong old new ((name, item_at tree path) ∷ []) given later wrong
+
 -- a file that was not opened
 pub path_refused : (snapshot : Option Snapshot) (fault : TreeFault) (opened : Option SourceModel) (old new : FileSearch)
     (name path given : List ℕ) → OpensFile snapshot path (Err fault) opened →

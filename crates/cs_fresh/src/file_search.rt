@@ -8,7 +8,7 @@ use crate::fault::FreshFault;
 use crate::reports::{Reports, status_of};
 use cs_output::Output;
 use cs_project::{Ended, Page, LineSearch, ShowOptions, Window, print_file};
-use cs_tree::{Sink, Source, Tree, TreeReader};
+use cs_tree::{Sink, Source, Tree, TreeFault, TreeReader};
 use std::alloc::{AllocError, Global};
 
 /// A search of one file after another.
@@ -109,6 +109,31 @@ impl<'p> FileSearch<'p> {
                 let mut reader = TreeReader::new(tree);
                 self.show_source(name, &mut reader, out, err)
             }
+            Err(fault) => self.reports.unopened(name, fault, err),
+        }
+    }
+
+    /// The same for a file that a word names. One that is gone is reported.
+    #[tactic(auto, using(crate::proofs::FileLemmas::path_opened, crate::proofs::FileLemmas::path_refused, crate::proofs::FileLemmas::path_reported))]
+    pub(crate) fn show_named<T: Tree, O: Output, E: Sink>(
+        &mut self,
+        tree: &mut T,
+        path: &str,
+        name: &str,
+        out: &mut O,
+        err: &mut E,
+    ) -> Result<(), FreshFault>
+        ensures shown { OnOk result (InTree (T.snapshot tree.old) (λ items. ShowsItems self.old self.new
+            ((name.now, items path.now) ∷ []) (O.given out.old) (O.given out.new))) }
+        ensures same { KeepsForm self.old self.new }
+        ensures keeps { T.snapshot tree.new ≡ T.snapshot tree.old }
+    {
+        match tree.open(path) {
+            Ok(()) => {
+                let mut reader = TreeReader::new(tree);
+                self.show_source(name, &mut reader, out, err)
+            }
+            Err(TreeFault::Missing) => self.reports.unnamed(name, TreeFault::Missing, err),
             Err(fault) => self.reports.unopened(name, fault, err),
         }
     }

@@ -176,7 +176,7 @@ impl<'a> Scope<'a> {
                 let path = named.path.as_str();
                 self.search_folder(search, NamedFolder { path, word }, tree, out, err)
             }
-            PathKind::File => search.show_file(tree, named.path.as_str(), word, out, err),
+            PathKind::File => search.show_named(tree, named.path.as_str(), word, out, err),
             PathKind::Unread(fault) => search.reports.unnamed(word, fault, err),
         }
     }

@@ -36,11 +36,11 @@ returns-in-File-clause-searched g c =
     let word = c.args.word.now in
     let path = string_bytes c.in_ok-named.named.path in
     let given = g.O.Output.given c.args.out.now in
-    let later = g.O.Output.given c.show_file.new.out in
-    let new = c.show_file.new.self in
-    on_ok c.show_file.result
+    let later = g.O.Output.given c.show_named.new.out in
+    let new = c.show_named.new.self in
+    on_ok c.show_named.result
     (λ has whole. file_named tree now (chosen_in scope.choices.now) scope.folder.now word path
     (λ named. ShowsItems c.args.search.now new named given later) c.in_ok-named.ensures.keeps
     (subst (λ kind. InTree tree (λ items. IsWordPath items scope.folder.now word path kind)) c.in-File.is c.in_ok-named.ensures.named)
     (subst (λ p. InTree now (λ items. ShowsItems c.args.search.now new ((word, items p) ∷ []) given later)) c.as_str.ensures.value has))
-    c.show_file.ensures.shown
+    c.show_named.ensures.shown

@@ -7,11 +7,10 @@ use cs_args::Tool;
 use cs_storage::{DiskFolder, IndexPaths};
 use cs_tree::{BufferedSink, DiskTree, StdSink, StdSource, is_absolute};
 use std::alloc::AllocError;
-use std::env;
 use std::env::VarError;
-use std::fs;
 use std::io::{Stderr, Stdin, Stdout};
 use std::os::unix::fs::FileTypeExt;
+use std::{env, fs};
 
 /// The size of the buffer of standard output, in bytes.
 const OUTPUT_BYTES: usize = 65536;

@@ -34,9 +34,11 @@ mod streams;
 use args::{program_path, read_args};
 use call::{Call, absolute_folder, project_args};
 use cs_args::Tool;
-use cs_tree::{IoFault, Sink, StdSink, write_all};
 use cs_fresh::{FreshFault, ProjectCall, SinkOutput, UserFolders, run_project};
-use disk::{DiskIndexFile, SettingFolders, buffered_output, disk_world, is_output_piped, project_tree};
+use cs_tree::{IoFault, Sink, StdSink, write_all};
+use disk::{
+    DiskIndexFile, SettingFolders, buffered_output, disk_world, is_output_piped, project_tree,
+};
 use execution::{execute, execute_cgrep};
 use given::Given;
 use outcome::{Outcome, ProgramFault};

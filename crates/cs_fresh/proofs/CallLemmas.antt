@@ -47,6 +47,11 @@ pub project_done : (snapshot now : Option Snapshot) (call : ProjectCall) (base :
     InTree now (λ items. AnswersRequest items call request given later status) →
     InTree snapshot (λ items. DoesProject items call given later result)
 project_done None now call base request given later status result right same has is answers = tt
-project_done (Some tree) now call base request given later status result right same has is answers = λ differs.
-    (base, request, has, is, subst (λ n. AnswersRequest (item_at tree) call request given later n) (sym (right differs))
-    (subst (λ s. InTree s (λ items. AnswersRequest items call request given later status)) same answers))
+project_done (Some tree) now call base request given later status result right same has is answers = λ differs. (
+  base,
+  request,
+  has,
+  is,
+  subst (λ n. AnswersRequest (item_at tree) call request given later n) (sym (right differs))
+      (subst (λ s. InTree s (λ items. AnswersRequest items call request given later status)) same answers),
+)

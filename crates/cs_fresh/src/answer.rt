@@ -166,11 +166,7 @@ fn words_at<'a>(
 }
 
 /// Where a request looks.
-fn scope_of<'a>(
-    call: &ProjectCall<'a>,
-    request: &'a Request,
-    words: &'a [&'a str],
-) -> Scope<'a>
+fn scope_of<'a>(call: &ProjectCall<'a>, request: &'a Request, words: &'a [&'a str]) -> Scope<'a>
     requires { texts words.now ≡ words_at' (map string_bytes call.now.words.now) request.now.paths.items }
     ensures { IsScopeOf call.now request.now result }
 {

@@ -7,7 +7,7 @@ ghost use Rattle.cs_fresh.specs.Sources.{IsStatusOf, ShowsSource};
 use crate::fault::FreshFault;
 use crate::reports::{Reports, status_of};
 use cs_output::Output;
-use cs_project::{Ended, Page, LineSearch, ShowOptions, Window, print_file};
+use cs_project::{Ended, LineSearch, Page, ShowOptions, Window, print_file};
 use cs_tree::{Sink, Source, Tree, TreeFault, TreeReader};
 use std::alloc::{AllocError, Global};
 

@@ -118,8 +118,7 @@ pub(crate) fn print_unread<E: Sink>(
     alloc: Global,
     unread: &[Unread],
     err: &mut E,
-) -> Result<bool, FreshFault>
-{
+) -> Result<bool, FreshFault> {
     let mut reports = Reports::new(alloc);
     'unread: for one in unread {
         reports.unlisted(one.path.as_str(), one.fault, err)?;

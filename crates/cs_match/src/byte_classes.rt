@@ -104,8 +104,7 @@ fn mark_sets(node: &Node, begins: &mut [u8])
     match node {
         Node::Set(set) => mark_set(set, begins),
         Node::Chars(set) => mark_chars(set, begins),
-        Node::Cat(parts) => mark_all_sets(parts, begins),
-        Node::Alt(parts) => mark_all_sets(parts, begins),
+        Node::Cat(parts) | Node::Alt(parts) => mark_all_sets(parts, begins),
         Node::Rep(x, _, _) => mark_sets(x, begins),
         _ => {}
     }

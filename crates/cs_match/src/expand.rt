@@ -16,18 +16,9 @@ pub(crate) fn expand(alloc: Global, node: &Node) -> Result<Node, AllocError>
     match node {
         Node::Empty => Ok(Node::Empty),
         Node::Set(set) => Ok(Node::Set(*set)),
-        Node::Chars(set) => {
-            let set = set.copy(alloc)?;
-            Ok(Node::Chars(set))
-        }
-        Node::Cat(parts) => {
-            let parts = expand_all(alloc, parts)?;
-            Ok(Node::Cat(parts))
-        }
-        Node::Alt(parts) => {
-            let parts = expand_all(alloc, parts)?;
-            Ok(alternation(parts))
-        }
+        Node::Chars(set) => Ok(Node::Chars(set.copy(alloc)?)),
+        Node::Cat(parts) => Ok(Node::Cat(expand_all(alloc, parts)?)),
+        Node::Alt(parts) => Ok(alternation(expand_all(alloc, parts)?)),
         Node::Rep(x, least, most) => expand_repeat(alloc, x, *least, *most),
         Node::LineStart => Ok(Node::LineStart),
         Node::LineEnd => Ok(Node::LineEnd),

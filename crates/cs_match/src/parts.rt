@@ -47,10 +47,7 @@ pub(crate) fn part_of(alloc: Global, node: &Node) -> Result<Fragment, AllocError
         Node::Chars(_) => Ok(Fragment::Run(2)),
         Node::Cat(parts) => sequence_of(alloc, parts),
         Node::Alt(parts) => alternation_of(alloc, parts),
-        Node::Rep(x, least, _) => {
-            let part = part_of(alloc, x)?;
-            Ok(Fragment::Rep(Box::new(alloc, part)?, *least))
-        }
+        Node::Rep(x, least, _) => Ok(Fragment::Rep(Box::new(alloc, part_of(alloc, x)?)?, *least)),
         Node::LineStart => Ok(Fragment::LineStart),
         Node::LineEnd => Ok(Fragment::LineEnd),
         Node::WordEdge => Ok(Fragment::WordEdge),

@@ -84,24 +84,28 @@ pub(crate) struct Part {
 /// Below this share of offsets, in units of 10^-12, candidates cost little.
 pub(crate) const RARE: u64 = 1_000_000_000;
 
-/// The first three neighbouring sets of a run that are rare, or else the rarest, given the
-/// frequencies of its sets. A word that begins where the run does may be exact.
+/// The rarest three neighbouring sets of a run, given the frequencies of its sets, or the first: a
+/// word that begins where the run does may be exact, which pays where it is frequent.
 fn rarest_trigram(run: &[ByteSet], frequencies: &[u64]) -> Option<Part> {
-    let mut best: Option<Part> = None;
+    let mut best = None;
+    let mut share = u64::MAX;
+    let mut first = 0;
     for (from, sets) in run.windows(3).enumerate() {
-        let mut share = 1u64;
+        let mut next = 1u64;
         for frequency in frequencies.iter().skip(from).take(3) {
-            share = share.saturating_mul(*frequency);
+            next = next.saturating_mul(*frequency);
         }
-        let share = share.saturating_add(common_share([&sets[0], &sets[1], &sets[2]]));
-        best = match best {
-            Some(part) if part.share <= share => Some(part),
-            Some(part) if part.share < RARE => Some(Part {
-                from: part.from,
-                share,
-            }),
-            _ => Some(Part { from, share }),
-        };
+        let next = next.saturating_add(common_share([&sets[0], &sets[1], &sets[2]]));
+        if from == 0 {
+            first = next;
+        }
+        if next < share {
+            share = next;
+            let is_common = COMMON_SHARE <= first && first < RARE;
+            let is_near = first < next.saturating_mul(2).min(RARE);
+            let from = if is_common || is_near { 0 } else { from };
+            best = Some(Part { from, share });
+        }
     }
     best
 }

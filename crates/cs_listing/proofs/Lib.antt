@@ -31,3 +31,4 @@ pub mod SettingLemmas
 pub mod StarLemmas
 pub mod LastElementLemmas
 pub mod RuleKeyLemmas
+mod RuleKeyExamples

@@ -93,7 +93,7 @@ impl Rules {
         self.decide_by_keys(path, is_folder, steps)
     }
 
-    // It is apart so that asking no rules costs no call.
+    // Apart, so that the test before it is inlined.
     #[inline(never)]
     fn decide_by_keys(&self, path: &[&[u8]], is_folder: bool, steps: &mut Steps) -> Option<Decision>
         ensures decides { result ≡ decide' (rules_in self.now) (names path.now) is_folder }
@@ -213,6 +213,7 @@ impl Rules {
         ensures { OnOk result (self.new.rules.items ≡ self.old.rules.items ++ rule ∷ []) }
     {
         let key = rule.key();
+        // After this the last push does not fail, so no key is without its rule.
         self.rules.reserve(1)?;
         self.keys.push(key)?;
         self.rules.push(rule)?;

@@ -30,7 +30,7 @@ pub(crate) type DiskWorld<'p> = World<
 pub(crate) fn disk_world<'p>(
     rt: &HostRuntime,
     call: &Call<'_>,
-    progress: &'p ProgressLine<'p>,
+    progress: &'p ProgressLine,
 ) -> Result<DiskWorld<'p>, AllocError> {
     let inner = tree_for(rt, call)?;
     Ok(World {

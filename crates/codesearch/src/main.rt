@@ -17,7 +17,8 @@
 //! of `cs_storage`, whose file is opened once as a `DiskStore`.
 #![tactic(auto)]
 
-ghost use Rattle.std.specs.Prelude.{◌≡◌};
+ghost use Rattle.std.specs.Prelude.{◌≡◌, true};
+ghost use Rattle.cs_tree.specs.Cover.{is_absolute};
 ghost use Rattle.codesearch.specs.Program.{IsCall, exit_status};
 
 mod args;
@@ -98,7 +99,7 @@ fn current_folder(rt: &HostRuntime) -> Result<Option<String>, AllocError> {
 fn execute_on_disk(rt: &HostRuntime, call: &Call<'_>) -> Result<u8, AllocError>
     requires { IsCall call.now }
 {
-    let progress = ProgressLine::new(rt, call.tool == Tool::Cindex);
+    let progress = ProgressLine::new(rt, call.tool == Tool::Cindex)?;
     let mut world = disk_world(rt, call, &progress)?;
     if call.tool == Tool::Cgrep {
         let outcome = execute_cgrep(call, &mut world);
@@ -115,44 +116,64 @@ fn execute_on_disk(rt: &HostRuntime, call: &Call<'_>) -> Result<u8, AllocError>
     Ok(end(rt, &mut world.out, &outcome))
 }
 
+/// Does what the arguments of `cs` ask for, and returns the exit status.
+#[inline(never)]
+fn search_on_disk(rt: &HostRuntime, given: &Given, words: &[String]) -> Result<u8, AllocError> {
+    if given.has_non_text {
+        let number = words.len() + 1;
+        let line = format!(in rt.alloc(); "cs: word {number} is not text\n")?;
+        return Ok(refuse_search(rt, line.as_str()));
+    }
+    let Some(folder) = absolute_folder(given) else {
+        return Ok(refuse_search(rt, "cs: no current folder\n"));
+    };
+    let settings = SettingFolders::of_environment(rt)?;
+    search_project(rt, words, folder, &settings)
+}
+
+/// Prints the line of an error, and returns the exit status.
+fn refuse_search(rt: &HostRuntime, line: &str) -> u8 {
+    let _ = write_all(&mut StdSink::new(rt.stderr()), line.as_bytes());
+    2
+}
+
 /// Does what the arguments of `cs` ask for, over the disk and the standard streams, and returns the
 /// exit status.
 #[inline(never)]
-fn search_on_disk(rt: &HostRuntime, given: &Given, words: &[String]) -> Result<u8, AllocError> {
-    let mut err = StdSink::new(rt.stderr());
-    if given.has_non_text {
-        let line = format!(in rt.alloc(); "cs: word {} is not text\n", words.len() + 1)?;
-        let _ = write_all(&mut err, line.as_bytes());
-        return Ok(2);
-    }
-    let Some(folder) = absolute_folder(given) else {
-        let _ = write_all(&mut err, b"cs: no current folder\n");
-        return Ok(2);
+fn search_project<'a>(
+    rt: &HostRuntime,
+    words: &'a [String],
+    folder: &'a str,
+    settings: &'a Option<SettingFolders>,
+) -> Result<u8, AllocError>
+    requires { is_absolute folder.now ≡ true }
+{
+    let user = match settings {
+        Some(folders) => Some(UserFolders {
+            home: folders.home.as_str(),
+            config: folders.config.as_str(),
+        }),
+        None => None,
     };
-    let settings = SettingFolders::of_environment(rt)?;
     let terminal = rt.stdout().is_terminal();
     let call = ProjectCall {
         alloc: rt.alloc(),
         words,
         folder,
-        user: match &settings {
-            Some(folders) => Some(UserFolders {
-                home: folders.home.as_str(),
-                config: folders.config.as_str(),
-            }),
-            None => None,
-        },
+        user,
         terminal,
     };
     let mut tree = project_tree(rt)?;
     let mut out = SinkOutput::new(buffered_output(rt)?, terminal);
+    let mut err = StdSink::new(rt.stderr());
     let answer = run_project(&call, &mut tree, &mut out, &mut err);
     let flushed = out.flush();
     if out.fault() == Some(IoFault::Failed) || flushed.is_err() {
-        if !is_output_piped(rt) {
-            let _ = write_all(&mut err, b"cs: output failed\n");
+        // A pipe whose reader has gone needs no line.
+        if is_output_piped(rt) {
+            return Ok(2);
         }
-        return Ok(2);
+        return Ok(refuse_search(rt, "cs: output failed\n"));
     }
     match answer {
         Ok(status) => Ok(status),

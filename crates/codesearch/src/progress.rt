@@ -16,8 +16,8 @@ const ERASE: &str = "\r                                                  \r";
 
 /// What was read so far, and the line that says it.
 #[derive(Drop)]
-pub(crate) struct ProgressLine<'r> {
-    rt: &'r HostRuntime,
+pub(crate) struct ProgressLine {
+    rt: HostRuntime,
     /// When a line was written last, or the start. None if none is ever written.
     last: Cell<Option<Instant>>,
     is_shown: Cell<bool>,
@@ -26,23 +26,23 @@ pub(crate) struct ProgressLine<'r> {
     bytes: Cell<u64>,
 }
 
-impl<'r> ProgressLine<'r> {
+impl ProgressLine {
     /// The progress of a job. Lines are written if they are wanted and standard error is a
     /// terminal.
-    pub(crate) fn new(rt: &'r HostRuntime, wanted: bool) -> ProgressLine<'r> {
+    pub(crate) fn new(rt: &HostRuntime, wanted: bool) -> Result<ProgressLine, AllocError> {
         let start = if wanted && rt.stderr().is_terminal() {
             Instant::now(rt).ok()
         } else {
             None
         };
-        ProgressLine {
-            rt,
+        Ok(ProgressLine {
+            rt: rt.clone()?,
             last: Cell::new(start),
             is_shown: Cell::new(false),
             paths: Cell::new(0),
             files: Cell::new(0),
             bytes: Cell::new(0),
-        }
+        })
     }
 
     /// Removes the line, if there is one.
@@ -58,7 +58,7 @@ impl<'r> ProgressLine<'r> {
         let Some(last) = self.last.get() else {
             return;
         };
-        let Ok(now) = Instant::now(self.rt) else {
+        let Ok(now) = Instant::now(&self.rt) else {
             return;
         };
         if now.duration_since(last) < Duration::from_millis(PERIOD) {
@@ -92,7 +92,7 @@ impl<'r> ProgressLine<'r> {
 #[derive(Drop)]
 pub(crate) struct CountedTree<'p, T: Drop> {
     pub(crate) inner: T,
-    pub(crate) progress: &'p ProgressLine<'p>,
+    pub(crate) progress: &'p ProgressLine,
 }
 
 impl<T: Tree + Drop> Tree for CountedTree<'_, T> {
@@ -138,7 +138,7 @@ impl<T: Tree + Drop> Tree for CountedTree<'_, T> {
 #[derive(Drop)]
 pub(crate) struct ClearedSink<'p, O: Drop> {
     pub(crate) inner: O,
-    pub(crate) progress: &'p ProgressLine<'p>,
+    pub(crate) progress: &'p ProgressLine,
 }
 
 impl<O: Sink + Drop> Sink for ClearedSink<'_, O> {

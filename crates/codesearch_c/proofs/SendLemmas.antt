@@ -14,7 +14,7 @@ use Rattle.cs_prefilter.proofs.prefilter.Prefilter.TheSendSync as prefilter
 use Rattle.cs_match.specs.contracts.spans.pass.Pass as Pass
 use Rattle.cs_match.specs.contracts.matcher.cache.Cache as Cache
 use Rattle.cs_match.specs.contracts.program.Program as Program
-use Rattle.cs_match.proofs.parts.Part.TheLaws.TheKnot as part
+use Rattle.cs_match.proofs.parts.Fragment.TheLaws.TheKnot as part
 use Rattle.cs_match.proofs.position_set.PositionSet.TheSendSync as positions
 use Rattle.cs_match.proofs.glushkov.Scratch.TheSendSync as scratch
 use Rattle.cs_match.proofs.dfa.StateCache.TheSendSync as states

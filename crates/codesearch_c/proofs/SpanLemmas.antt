@@ -5,7 +5,7 @@ use Rattle.cs_match.specs.SameLines.{MatchSameSpans}
 use Rattle.cs_match.specs.Span.{IsMatchOf, HasNoMatchOf, IsFirstOf, AreSpansFrom}
 use Rattle.cs_match.specs.SpanList.{IsListing}
 use Rattle.cs_match.specs.declared.spans.Span.{Span}
-use Rattle.cs_match.specs.declared.spans.Listed.{Listed}
+use Rattle.cs_match.specs.declared.spans.ListedSpans.{ListedSpans}
 
 -- a finder of the program finds the spans of the pattern
 pub alike_by : (tree program held pattern : Tree) → tree ≡ program → held ≡ pattern → MatchSameSpans program held →
@@ -50,6 +50,6 @@ module _ (a b : Tree) (whole : Bool) (s : List ℕ) (alike : MatchSameSpans a b)
   spans_of all from least [] h = λ e. none_of from least (h e)
   spans_of all from least (span ∷ spans) h = (first_of from least span.0 span.1 h.0, spans_of all span.1 (suc span.1) spans h.1)
 
-  pub listing_of : (old new : List Span) (listed : Listed) → IsListing whole a s old new listed → IsListing whole b s old new listed
+  pub listing_of : (old new : List Span) (listed : ListedSpans) → IsListing whole a s old new listed → IsListing whole b s old new listed
   listing_of old new listed h =
       record { spans = spans_of _ 0 0 _ h.spans; within = h.within; size = h.size; rest = h.rest }

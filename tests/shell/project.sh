@@ -204,7 +204,7 @@ rm many
 
 # ---- errors -------------------------------------------------------------------------------------------------------------
 prints 2 '' 'cs: no pattern (cs --help)\n' "cs"
-prints 2 '' 'cs: unknown option (cs --help): --nonsense\n' "cs --nonsense ab"
+prints 2 '' 'cs: unknown option: --nonsense (cs --help)\n' "cs --nonsense ab"
 prints 2 '' 'cs: an option of rg that cs does not have: --json\n' "cs --json ab"
 prints 2 '' 'cs: an option that takes no value: --count=3\n' "cs --count=3 ab"
 prints 2 '' 'cs: the last option needs a value\n' "cs ab -m"

@@ -1,6 +1,6 @@
 #!/usr/bin/env python3
 """Fails if a comment of the code is wider than 100 columns, or a line of a contract than 110, where a definition is missing; if two
-types have one name in crates one of which uses the other; or if two definitions of a crate have one name. Names in TWICE may. Before, it tries each of these tests on a wrong text.
+types have one name in crates one of which uses the other; or if two definitions of a crate have one name. Before, it tries each of these tests on a wrong text.
 usage: tests/shell/house.py [FOLDER]"""
 import re
 import sys
@@ -11,8 +11,6 @@ top = Path(sys.argv[1] if sys.argv[1:] else Path(__file__).parent.parent.parent)
 COMMENT, CLAUSE = 100, 110
 TYPE = re.compile(r"^\s*(?:pub(?:\(\w+\))? )?(?:struct|enum|trait|union) (\w+)", re.M)
 DEFINITION = re.compile(r"^(?:(?:abbrev|unfoldable|pub|record|data) )+([\w']+)[^\n]* : ", re.M)
-# Names that are given twice and are still to be replaced.
-TWICE = set()
 
 
 def wide(path, text):
@@ -75,6 +73,5 @@ for crate in sorted(it for it in (top / "crates").iterdir() if (it / "src").is_d
         types[crate.name] = [name for path in crate.glob("src/**/*.rt") for name in TYPE.findall(path.read_text())]
         found += repeated(crate.name, {path.stem: path.read_text() for path in crate.glob("specs/**/*.antt")})
 found += homonyms(types, uses((top / "crates.txt").read_text()))
-found = [it for it in found if it.split(":")[0] not in TWICE]
 print(*found, sep="\n") if found else None
 sys.exit(bool(found))

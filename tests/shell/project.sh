@@ -118,15 +118,28 @@ prints 0 'ab ab\nab ab\n' '' "cs ab to_f"
 prints 0 'pipe:ab\nsub/g:ab\n' '' "{ echo ab > pipe & cs ab pipe sub/g; }"
 prints 2 'sub/g:ab\n' 'cs: missing: no such file\n' "cs ab missing sub/g"
 rm link to_f pipe
-if [ "$(id -u)" != 0 ]; then
-    mkdir closed
-    printf 'ab\n' > closed/j
-    printf 'ab\n' > unread
-    chmod 0 closed unread
-    prints 2 'sub/g:ab\n' 'cs: closed: permission denied\ncs: unread: permission denied\n' "cs ab closed sub/g unread"
-    chmod 700 closed
-    rm -r closed unread
+# Root may read protected files, unless it gives up that capability.
+powerless() { "$@"; }
+if [ "$(id -u)" -eq 0 ]; then
+    powers=-dac_override,-dac_read_search
+    powerless() { setpriv --bounding-set $powers --inh-caps $powers "$@"; }
 fi
+mkdir closed
+printf 'ab\n' > closed/j
+printf 'ab\n' > unread
+chmod 0 closed unread
+if powerless true 2> /dev/null && ! powerless cat unread > /dev/null 2>&1; then
+    prints 2 'sub/g:ab\n' 'cs: closed: permission denied\ncs: unread: permission denied\n' "powerless cs ab closed sub/g unread"
+    prints 2 'sub/g\n' 'cs: closed: permission denied\ncs: unread: permission denied\n' "powerless cs -l -g closed -g 'unread' -g sub/g ab"
+    prints 0 '' 'cs: closed: permission denied\n' "powerless cs -q ab closed sub/g"
+    chmod 0 .gitignore
+    prints 2 'sub/g\n' 'cs: .gitignore: permission denied\ncs: closed: permission denied\n' "powerless cs -l -g sub/g ab"
+    chmod 644 .gitignore
+else
+    skipped 'what may not be read: root may read all files, and setpriv does not take that away'
+fi
+chmod 700 closed
+rm -rf closed unread
 
 # ---- bad input ----------------------------------------------------------------------------------------------------------
 mkdir -p "$fresh/bad/.git/info" "$fresh/bad/sub"

@@ -23,11 +23,13 @@ CONTRACTS = [
     ("cindex_stored", "cs_cindex/src/job.rt", [], None),
     ("run", "codesearch/src/running.rt", [], 2600),
     ("execute", "codesearch/src/execution.rt", [], 2700),
+    ("run_project", "cs_fresh/src/answer.rt", [], 2900),
 ]
 
 # the files of the traits
 TRAITS = {
     "Tree": "cs_tree/src/tree.rt",
+    "Look": "cs_tree/src/look.rt",
     "Source": "cs_tree/src/source.rt",
     "Sink": "cs_tree/src/sink.rt",
     "Store": "cs_tree/src/store.rt",

@@ -109,6 +109,10 @@ impl Window {
         ensures text { self.new.text.items ≡ drop count self.old.text.items }
         ensures left { self.new.left ≡ self.old.left }
     {
+        // A long line is not moved at each block of it.
+        if count == 0 {
+            return;
+        }
         let len = self.text.len();
         self.text.as_mut_slice().copy_within(count..len, 0);
         self.text.truncate(len - count);

@@ -1,4 +1,4 @@
-//! What a `cs` to come prints of a text. Read `specs/Contexts.antt` first (which lines are shown),
+//! What `cs` prints of a text. Read `specs/Contexts.antt` first (which lines are shown),
 //! then `specs/Forms.antt` (a line as it is printed), `specs/Findings.antt` (which lines match, and
 //! where) and `specs/Shown.antt` (a text, and texts one after another). `specs/Project.antt` says
 //! what is printed for an item of a tree, and the exit status.

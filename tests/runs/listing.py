@@ -2,11 +2,9 @@
 """compares the files that `cs --files -0` lists with those that git lists, in random projects
 usage: tests/runs/listing.py PROGRAM [PROJECTS [SEED]]"""
 import os
-import random
-import shutil
+import running
 import subprocess
 import sys
-import tempfile
 
 NAMES = ["a", "b", "ab", "a.b", ".c", "b.log", "x y", "é", "[a]", "#a", "!b", "a*", "A", "doc", "foo"]
 SETTINGS = {"GIT_CONFIG_GLOBAL": "/dev/null", "GIT_CONFIG_NOSYSTEM": "1", "HOME": "/nonexistent", "LC_ALL": "C"}
@@ -94,23 +92,10 @@ def compare(program, dice, folder):
 
 
 def main():
-    program = os.path.realpath(sys.argv[1])
     projects = int(sys.argv[2]) if len(sys.argv) > 2 else 100
-    seed = int(sys.argv[3]) if len(sys.argv) > 3 else 1
-    if not shutil.which("git"):
-        print("skipped: git is not installed")
-        return False
-    top, failed = tempfile.mkdtemp(), 0
-    for number in range(projects):
-        folder = f"{top}/{number}"
-        if compare(program, random.Random(f"{seed} {number}"), folder):
-            shutil.rmtree(folder)
-        else:
-            failed += 1
-    print(f"{projects} projects, {failed} differ")
-    if not failed:
-        shutil.rmtree(top)
-    return failed > 0
+    seed = sys.argv[3] if len(sys.argv) > 3 else "1"
+    agrees = lambda dice, folder: compare(running.program, dice, folder)
+    return not running.try_projects("git", projects, seed, agrees)
 
 
 sys.exit(main())

@@ -2,11 +2,9 @@
 """compares what `codesearch cs` prints with what rg prints: random texts, patterns and options, in small projects
 usage: tests/runs/project.py PROGRAM [SEARCHES [SEED]]"""
 import os
-import random
-import shutil
+import running
 import subprocess
 import sys
-import tempfile
 
 PATTERNS = ["ab", "a", "b+", "[ab]c", "^a", "b$", "^$", "a.c", "c[ab]*c", "(ab)+", "x", "[^a]b", "aa?b", r"\bab", r"ab\b", "", "A", "aB"]
 EMPTY = ["", "^$"]
@@ -90,23 +88,10 @@ def agree(program, dice, folder):
 
 
 def main():
-    program = os.path.realpath(sys.argv[1])
     projects = int(sys.argv[2]) // 20 if len(sys.argv) > 2 else 100
-    seed = int(sys.argv[3]) if len(sys.argv) > 3 else 1
-    if not shutil.which("rg"):
-        print("skipped: rg is not installed")
-        return False
-    top, failed = tempfile.mkdtemp(), 0
-    for number in range(projects):
-        folder = f"{top}/{number}"
-        if agree(program, random.Random(f"{seed} {number}"), folder):
-            shutil.rmtree(folder)
-        else:
-            failed += 1
-    print(f"{20 * projects} searches in {projects} projects, {failed} projects differ")
-    if not failed:
-        shutil.rmtree(top)
-    return failed > 0
+    seed = sys.argv[3] if len(sys.argv) > 3 else "1"
+    agrees = lambda dice, folder: agree(running.program, dice, folder)
+    return not running.try_projects("rg", projects, seed, agrees)
 
 
 sys.exit(main())

@@ -1,5 +1,6 @@
 """Runs of the program in a temporary folder, for the tests that run it many times."""
 import os
+import random
 import resource
 import shutil
 import subprocess
@@ -100,3 +101,21 @@ def complain(what, came):
     wrong += 1
     if wrong <= 20:
         print(f"WRONG: {what}; came {came}", flush=True)
+
+
+def try_projects(tool, projects, seed, agrees):
+    """whether in each of random projects `agrees(dice, folder)` beside a tool; leaves the folders where it does not"""
+    if not shutil.which(tool):
+        print(f"skipped: {tool} is not installed")
+        return True
+    top, failed = tempfile.mkdtemp(), 0
+    for number in range(projects):
+        folder = f"{top}/{number}"
+        if agrees(random.Random(f"{seed} {number}"), folder):
+            shutil.rmtree(folder)
+        else:
+            failed += 1
+    print(f"{projects} projects, {failed} differ from {tool}")
+    if not failed:
+        shutil.rmtree(top)
+    return not failed

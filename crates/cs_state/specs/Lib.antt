@@ -1,2 +1,4 @@
 -- Definitions that public contracts cite.
 pub mod Known
+pub mod Sums
+pub mod SummedStores

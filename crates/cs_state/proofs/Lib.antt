@@ -1,2 +1,3 @@
 mod StoreLemmas
 mod SumLemmas
+mod WriterLemmas

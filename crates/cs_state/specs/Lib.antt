@@ -2,3 +2,7 @@
 pub mod Known
 pub mod Sums
 pub mod SummedStores
+pub mod StateFile
+pub mod Others
+pub mod SummedOutputs
+pub mod StateWriters

@@ -7,7 +7,7 @@ ghost use Rattle.cs_state.specs.Sums.{HasSum};
 ghost use Rattle.cs_state.specs.SummedStores.{KeepsBytes, ReadsSummed};
 
 use crate::summed_bytes::SummedBytes;
-use crate::sums::{PIECE_LEN, is_sum};
+use crate::sums::{PIECE_LEN, sum_bytes};
 use cs_tree::{IoFault, Store, read_part};
 use std::alloc::Global;
 
@@ -41,7 +41,7 @@ impl<S: Store> SummedBytes<S> {
         let len = PIECE_LEN.min(self.len.saturating_sub(at));
         let piece = read_part(self.alloc, &mut self.store, at, len)?;
         let stored = read_part(self.alloc, &mut self.store, self.len + 8 * number, 8)?;
-        if !is_sum(&stored, &piece) {
+        if stored.as_slice() != sum_bytes(&piece).as_slice() {
             return Err(IoFault::Failed);
         }
         self.tested = number;

@@ -1,5 +1,5 @@
 // The sum of a piece of a state file.
-ghost use Rattle.std.specs.Prelude.{◌≡◌, bytes_eq};
+ghost use Rattle.std.specs.Prelude.{◌≡◌};
 ghost use Rattle.cs_state.specs.Sums.{sum_bytes, sum_of, with_word};
 
 /// The length of each piece except the last.
@@ -9,7 +9,7 @@ pub(crate) const PIECE_LEN: usize = 65536;
 const MULTIPLIER: u64 = 0x9E37_79B9_7F4A_7C15;
 
 /// The sum of a piece.
-pub(crate) fn sum(piece: &[u8]) -> u64
+fn sum(piece: &[u8]) -> u64
     ensures { result ≡ sum_of piece.now }
 {
     let mut sum = piece.len() as u64;
@@ -24,11 +24,11 @@ pub(crate) fn sum(piece: &[u8]) -> u64
     sum
 }
 
-/// Whether these bytes are the sum of the piece.
-pub(crate) fn is_sum(bytes: &[u8], piece: &[u8]) -> bool
-    ensures { result ≡ bytes_eq bytes.now (sum_bytes piece.now) }
+/// The sum of a piece as eight bytes, big-endian.
+pub(crate) fn sum_bytes(piece: &[u8]) -> [u8; 8]
+    ensures { result ≡ sum_bytes piece.now }
 {
-    bytes == sum(piece).to_be_bytes().as_slice()
+    sum(piece).to_be_bytes()
 }
 
 fn with_word(sum: u64, word: u64) -> u64

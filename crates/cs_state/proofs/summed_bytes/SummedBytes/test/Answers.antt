@@ -2,7 +2,7 @@ use Rattle.std.proofs.Common.{◌≡◌, ◌∙◌, ◌+◌, ◌*◌, min, ap, s
 use Rattle.cs_tree.specs.Store.{part_of}
 use Rattle.cs_state.specs.Sums.{sum_bytes}
 use Rattle.cs_state.proofs.StoreLemmas.{at_some}
-use Rattle.cs_state.proofs.SumLemmas.{has_sum}
+use Rattle.cs_state.proofs.SumLemmas.{has_sum, not_false}
 use Rattle.cs_state.proofs.summed_bytes.SummedBytes.test.Goals as goal
 
 pub invariant_of-self-2 : goal.invariant_of-self-2
@@ -17,6 +17,6 @@ invariant_of-self-2 g c = record {
       (at_some (λ bytes. piece ≡ part_of bytes (c.args.number * 65536) c.min-len.result) _ all start c.in_ok-piece.ensures.bytes
       ∙ ap (part_of all (c.args.number * 65536)) (c.min-len.ensures ∙ ap (λ n. min 65536 n) c.saturating_sub.ensures))
       (at_some (λ bytes. stored ≡ part_of bytes (c.args.self.now.len + 8 * c.args.number) 8) _ all before c.in_ok-stored.ensures.bytes)
-      (ap (λ s. bytes_eq s (sum_bytes piece)) (sym c.deref.ensures.value) ∙ ap (λ p. bytes_eq c.deref.result.now (sum_bytes p)) (sym c.deref-2.ensures.value)
-      ∙ sym c.is_sum.ensures ∙ c.if-not-is_sum.false);
+      ((λ i. bytes_eq (sym c.as_slice.ensures.value i) (sym (c.as_slice-2.ensures ∙ c.sum_bytes.ensures ∙ ap sum_bytes c.deref.ensures.value) i))
+      ∙ not_false (bytes_eq c.as_slice.result.now c.as_slice-2.result.now) (sym c.ne.ensures ∙ c.if-ne.false));
 }

@@ -1,0 +1,13 @@
+use Rattle.std.proofs.Common.{◌∙◌, append-nil, rules, sym}
+use Rattle.cs_state.specs.SummedOutputs.{bytes_given}
+use Rattle.cs_state.proofs.state_writer.StateWriter.new.Goals as goal
+
+pub returns : goal.returns
+returns g c =
+    let all = bytes_given g.O.Output.given c.args.out in
+    record {
+      bytes = sym (append-nil all) ∙ sym (append-nil _);
+      summed = λ whole. c.requires;
+      index_len = c.requires.len;
+      stamps_len = search rules;
+    }

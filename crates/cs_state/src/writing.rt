@@ -1,0 +1,104 @@
+// Writing a state.
+ghost use Rattle.std.specs.Prelude.{◌≡◌, ◌<◌, ◌^◌, ◌++◌, ◌∷◌, [], ℕ, List, IfOk, OnOk, length};
+ghost use Rattle.cs_tree.specs.declared.look.Stamp.{Stamp};
+ghost use Rattle.cs_state.specs.Known.{Known};
+ghost use Rattle.cs_state.specs.Others.{other_of};
+ghost use Rattle.cs_state.specs.StateFile.{body_of, eight_bytes, stamp_bytes, state_bytes};
+ghost use Rattle.cs_state.specs.StateWriters.{Appends, HasWritten};
+ghost use Rattle.cs_state.specs.SummedOutputs.{IsSummed, bytes_given};
+
+use crate::others::Unindexed;
+use crate::state_writer::StateWriter;
+use crate::summed_output::SummedOutput;
+use cs_output::Output;
+use cs_tree::Stamp;
+use std::alloc::AllocError;
+
+const STAMP_LEN: u64 = 40;
+
+/// The end of a state file. It changes with every rule that a state rests on.
+pub(crate) const MAGIC: &[u8] = b"codesearch state1";
+
+impl<O: Output> StateWriter<O> {
+    /// A writer after an index.
+    pub fn new(out: SummedOutput<O>) -> StateWriter<O>
+        requires { IsSummed O.given out }
+        ensures { HasWritten O.given result (bytes_given O.given out) [] [] }
+    {
+        let index_len = out.len;
+        StateWriter {
+            out,
+            index_len,
+            stamps_len: 0,
+        }
+    }
+
+    /// Writes the stamp of the next name of the index.
+    pub fn stamp(&mut self, stamp: &Stamp) -> Result<(), AllocError>
+        ensures { (index : List ℕ) (stamps : List Stamp) → HasWritten O.given self.old index stamps [] →
+            OnOk result (HasWritten O.given self.new index (stamps ++ stamp.now ∷ []) []) }
+    {
+        self.append_stamp(stamp)?;
+        self.stamps_len = self.stamps_len.saturating_add(STAMP_LEN);
+        Ok(())
+    }
+
+    /// Writes the next file that is not in the index.
+    pub fn other(
+        &mut self,
+        name: &str,
+        kept: Unindexed,
+        stamp: &Stamp,
+    ) -> Result<(), AllocError>
+        ensures { (index : List ℕ) (stamps : List Stamp) (others : List Known) →
+            HasWritten O.given self.old index stamps others → OnOk result (HasWritten O.given
+            self.new index stamps (others ++ other_of name.now kept stamp.now ∷ [])) }
+    {
+        self.append(name.as_bytes())?;
+        self.append(&[0, kept.byte()])?;
+        self.append_stamp(stamp)
+    }
+
+    fn append_stamp(&mut self, stamp: &Stamp) -> Result<(), AllocError>
+        ensures { OnOk result (Appends O.given self.old self.new (stamp_bytes stamp.now)) }
+    {
+        self.append_number(stamp.device)?;
+        self.append_number(stamp.inode)?;
+        self.append_number(stamp.size)?;
+        self.append_number(stamp.modified)?;
+        self.append_number(stamp.changed)
+    }
+
+    #[tactic(auto, unfolding(crate::specs::StateFile::eight_bytes))]
+    fn append_number(&mut self, n: u64) -> Result<(), AllocError>
+        ensures { OnOk result (Appends O.given self.old self.new (eight_bytes n)) }
+    {
+        self.append(&n.to_be_bytes())
+    }
+
+    fn append(&mut self, bytes: &[u8]) -> Result<(), AllocError>
+        ensures { OnOk result (Appends O.given self.old self.new bytes.now) }
+    {
+        self.out.append(bytes)
+    }
+}
+
+impl<O: Output + Drop> StateWriter<O> {
+    /// Appends the sums, the lengths and the magic, and gives the output back.
+    pub fn finish(self) -> Result<O, AllocError>
+        ensures { (index : List ℕ) (stamps : List Stamp) (others : List Known) →
+            HasWritten O.given self index stamps others → length (body_of index stamps others) < 2 ^ 64 →
+            IfOk result (λ out. O.given out ≡ state_bytes index stamps others) }
+    {
+        let StateWriter {
+            out,
+            index_len,
+            stamps_len,
+        } = self;
+        let mut out = out.finish()?;
+        out.append(&index_len.to_be_bytes())?;
+        out.append(&stamps_len.to_be_bytes())?;
+        out.append(MAGIC)?;
+        Ok(out)
+    }
+}

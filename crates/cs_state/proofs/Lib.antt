@@ -1,3 +1,5 @@
+mod Examples
+mod OpeningLemmas
 mod StoreLemmas
 mod SumLemmas
 mod WriterLemmas

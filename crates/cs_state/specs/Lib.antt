@@ -3,6 +3,8 @@ pub mod Known
 pub mod Sums
 pub mod SummedStores
 pub mod StateFile
+pub mod StateLengths
+pub mod ProjectStates
 pub mod Others
 pub mod SummedOutputs
 pub mod StateWriters

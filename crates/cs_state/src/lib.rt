@@ -1,8 +1,21 @@
-//! The state of a project: what earlier runs learned of its files. Read `specs/Known.antt` first.
+//! The state of a project: what earlier runs learned of its files. Read `specs/Known.antt` first,
+//! then `specs/StateFile.antt`: the bytes of a state file, and `specs/ProjectStates.antt`: which
+//! bytes are which state.
+//!
+//! *Writing.* An index is written through a `SummedOutput`, which sends its bytes on in pieces of
+//! 64 KiB and keeps the sum of each. A `StateWriter` then appends a stamp for each name of the
+//! index, and the files that are known without it. Only the sums stay in memory.
+//!
+//! *Opening.* `read_lengths` reads the end of a file: where its sections are. `SummedBytes` are the
+//! bytes before the sums, as a store: a piece is tested when a byte of it is read, and not again
+//! while the next reads are in it. `FirstBytes` of these are the index, which `StoredIndex` of
+//! `cs_index` reads as an index in a file of its own; so each byte of it that is read was tested.
 #![tactic(auto)]
 
 mod first_bytes;
+mod opening;
 mod others;
+mod state_lengths;
 mod state_writer;
 mod summed;
 mod summed_bytes;
@@ -12,7 +25,9 @@ mod sums;
 mod writing;
 
 pub use first_bytes::FirstBytes;
+pub use opening::read_lengths;
 pub use others::Unindexed;
+pub use state_lengths::StateLengths;
 pub use state_writer::StateWriter;
 pub use summed_bytes::SummedBytes;
 pub use summed_output::SummedOutput;

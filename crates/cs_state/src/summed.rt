@@ -13,7 +13,7 @@ use std::alloc::Global;
 
 impl<S: Store> SummedBytes<S> {
     /// The first `len` bytes, with no piece tested.
-    pub(crate) fn new(alloc: Global, store: S, len: usize) -> SummedBytes<S>
+    pub fn new(alloc: Global, store: S, len: usize) -> SummedBytes<S>
         requires { len < 2 ^ 32 }
         ensures store { result.store ≡ store }
         ensures len { result.len ≡ len }

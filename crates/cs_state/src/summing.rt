@@ -104,8 +104,10 @@ impl<O: Output> Output for SummedOutput<O> {
 
     ghost keeps_refl = { λ x. (O.keeps_refl x.out, λ summed. summed) };
 
-    ghost keeps_trans = { λ x y z first next. (O.keeps_trans x.out y.out z.out first.0 next.0,
-        λ summed. next.1 (first.1 summed)) };
+    ghost keeps_trans = { λ x y z first next. (
+      O.keeps_trans x.out y.out z.out first.0 next.0,
+      λ summed. next.1 (first.1 summed),
+    ) };
 
     fn append(&mut self, bytes: &[u8]) -> Result<(), AllocError> {
         let whole = self.whole;

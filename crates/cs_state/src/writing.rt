@@ -44,12 +44,7 @@ impl<O: Output> StateWriter<O> {
     }
 
     /// Writes the next file that is not in the index.
-    pub fn other(
-        &mut self,
-        name: &str,
-        kept: Unindexed,
-        stamp: &Stamp,
-    ) -> Result<(), AllocError>
+    pub fn other(&mut self, name: &str, kept: Unindexed, stamp: &Stamp) -> Result<(), AllocError>
         ensures { (index : List ℕ) (stamps : List Stamp) (others : List Known) →
             HasWritten O.given self.old index stamps others → OnOk result (HasWritten O.given
             self.new index stamps (others ++ other_of name.now kept stamp.now ∷ [])) }

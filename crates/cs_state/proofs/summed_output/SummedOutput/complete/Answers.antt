@@ -23,6 +23,6 @@ returns-clause-sums g c = λ summed.
     let some = some_items piece.len (sym c.is_empty.ensures ∙ c.if-is_empty.false) in
     on_ok c.extend_from_slice.result
     (λ (more : new ≡ sums ++ c.sum_bytes.result). more
-        ∙ (λ i. summed.sums i ++ (c.sum_bytes.ensures ∙ ap sum_bytes c.deref.ensures.value) i)
-        ∙ sym (sums_last summed.count sent piece.items summed.sent (omega (arith, long, some)) (omega (arith, long, c.args.self.now.within))))
+    ∙ (λ i. summed.sums i ++ (c.sum_bytes.ensures ∙ ap sum_bytes c.deref.ensures.value) i)
+    ∙ sym (sums_last summed.count sent piece.items summed.sent (omega (arith, long, some)) (omega (arith, long, c.args.self.now.within))))
     (if_ok c.extend_from_slice.result new (sums ++ c.sum_bytes.result) sums c.extend_from_slice.ensures.items)

@@ -1,5 +1,5 @@
 -- Values of the definitions, from a program in Python.
-use Rattle.std.proofs.Common.{◌≡◌, refl, ℕ, List, [], ◌∷◌, ◌++◌}
+use Rattle.std.proofs.Common.{◌≡◌, refl, [], ◌∷◌, ◌++◌}
 use Rattle.std.specs.Prelude.{codes}
 use Rattle.cs_tree.specs.declared.look.Stamp.{Stamp}
 use Rattle.cs_state.specs.Known.{Known, binary}

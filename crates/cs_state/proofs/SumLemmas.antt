@@ -1,5 +1,5 @@
 -- Sums of pieces, word by word.
-use Rattle.std.proofs.Common.{◌≡◌, ◌≤◌, ◌<◌, ℕ, zero, suc, ◌+◌, ◌-◌, ◌*◌, ◌/◌, min, bytes_eq, Bool, not, true, false, List, [], ◌∷◌, ◌++◌, append-nil, append_assoc, length, take, drop, get_or, fold, refl, sym, ap, ◌∙◌, arith}
+use Rattle.std.proofs.Common.{◌≡◌, ◌≤◌, ◌<◌, ℕ, zero, suc, ◌+◌, ◌-◌, ◌*◌, min, bytes_eq, Bool, not, true, false, List, [], ◌∷◌, ◌++◌, append-nil, append_assoc, length, take, drop, get_or, fold, refl, sym, ap, ◌∙◌, arith}
 use Rattle.std.proofs.lemmas.List.{take_all, length-append, length-drop, take-append-le, drop-append-le}
 use Rattle.std.specs.Int.{from_be_bytes, w64}
 use Rattle.std.proofs.lemmas.Slice.Eq.{bytes_eq-Decides}

@@ -1,4 +1,4 @@
-use Rattle.std.proofs.Common.{◌≡◌, ◌∙◌, ◌+◌, ap, min}
+use Rattle.std.proofs.Common.{◌∙◌, ◌+◌, ap, min}
 use Rattle.cs_state.proofs.WriterLemmas.{stamp_more, stamps_len_more}
 use Rattle.cs_state.proofs.state_writer.StateWriter.stamp.Goals as goal
 

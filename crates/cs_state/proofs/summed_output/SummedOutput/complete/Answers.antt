@@ -1,7 +1,6 @@
-use Rattle.std.proofs.Common.{◌≡◌, ◌≤◌, ◌<◌, ◌∙◌, ◌++◌, ℕ, List, length, ap, sym, eqb, arith}
+use Rattle.std.proofs.Common.{◌≡◌, ◌∙◌, ◌++◌, ℕ, List, length, ap, sym, arith}
 use Rattle.std.proofs.lemmas.Bool.{eqb-true}
 use Rattle.cs_state.specs.Sums.{sum_bytes, sums_of}
-use Rattle.cs_state.specs.SummedOutputs.{bytes_given}
 use Rattle.cs_state.proofs.SumLemmas.{sums_last, sums_whole}
 use Rattle.cs_state.proofs.WriterLemmas.{if_ok, no_items, on_ok, some_items}
 use Rattle.cs_state.proofs.summed_output.SummedOutput.complete.Goals as goal

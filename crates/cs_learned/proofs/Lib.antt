@@ -1,0 +1,6 @@
+mod Examples
+mod LineLemmas
+mod SkippedTextLemmas
+mod LearnedLemmas
+mod FreshLemmas
+mod UpdateLemmas

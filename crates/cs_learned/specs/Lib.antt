@@ -1,0 +1,5 @@
+-- Definitions that public contracts cite.
+pub mod Skipped
+pub mod Learned
+pub mod Fresh
+pub mod Updates

@@ -9,12 +9,14 @@
 //! A *glob* is a list of elements, one for each name of a path, or `**` for any number of folders;
 //! an element is a list of tokens; the token `*` takes any bytes. A rule without a slash begins
 //! with `**`, and a `**` at the end is `**/*`, so there is one kind of match. Matching is greedy,
-//! without backtracking: after a mismatch only the last `*` of a name takes one byte more, and only
-//! the last `**` of a path one name more. The invariant says why that is enough: what an earlier
-//! star could match, the last one can match too. A class that does not end matches nothing, and
-//! takes the rest of its rule, so that each byte is read a bounded number of times. A path is given
-//! by its names below the folder of the rules, so that a walk can pass a suffix of its stack of
-//! names.
+//! without backtracking: after a mismatch only the last `*` of a name takes more, up to the next
+//! byte that may match the token after it, and only the last `**` of a path takes one name more.
+//! The invariant says why that is enough: what an earlier star could match, the last one can match
+//! too. Only rules are tried whose key, a byte, is one of three that the last name has
+//! (`specs/RuleKeys.antt`), and the last element of each comes first. A class that does not end
+//! matches nothing, and takes the rest of its rule, so that each byte is read a bounded number of
+//! times. A path is given by its names below the folder of the rules, so that a walk can pass a
+//! suffix of its stack of names.
 //!
 //! `Layers` is a stack of the folders from the topmost down to one that is walked, each with the
 //! rules of its `.ignore` and its `.gitignore`, and those of `info/exclude` where a repository

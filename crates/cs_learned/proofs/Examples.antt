@@ -1,5 +1,5 @@
 -- Which files are skipped, at some states and options.
-use Rattle.std.proofs.Common.{◌≡◌, ℕ, Bool, true, false, not, cond, List, [], ◌∷◌, Some, None, refl, ap, codes}
+use Rattle.std.proofs.Common.{◌≡◌, ℕ, Bool, true, false, not, cond, List, [], ◌∷◌, map, Some, None, refl, ap, codes}
 use Rattle.std.specs.Prelude.{bytes_eq}
 use Rattle.std.specs.List.{list_any}
 use Rattle.cs_tree.specs.Snapshot.{file}
@@ -13,6 +13,7 @@ use Rattle.cs_project.specs.declared.form.Mode.TheVariants.{Lines, Counts, Other
 use Rattle.cs_project.specs.declared.form.ShowOptions.{ShowOptions}
 use Rattle.cs_state.specs.Known.{indexed, binary, apart, ProjectState}
 use Rattle.cs_learned.specs.Skipped.{View, is_skipped}
+use Rattle.cs_learned.specs.Fresh.{ListedFile, item_now, items_read}
 
 -- ---- a state with a text of the index, a binary file, and a text apart
 
@@ -120,3 +121,17 @@ a_text_apart_is_read = refl
 
 an_unknown_file_is_read : is_skipped plain false Nothing state same (codes "/d") ≡ false
 an_unknown_file_is_read = refl
+
+-- ---- all files
+
+abbrev listed : List ℕ → List ℕ → ListedFile
+listed name printed = record { name = name; printed = printed }
+
+one_of_three_files_is_read : items_read plain false Nothing state same
+    (listed (codes "/a") (codes "a") ∷ listed (codes "/b") (codes "b") ∷ listed (codes "/c") (codes "c") ∷ [])
+    ≡ (codes "c", file (codes "x\n")) ∷ []
+unfolding names_matching
+one_of_three_files_is_read =
+    ap (λ (matched : Bool). map (item_now same) (cond {A = List ListedFile} (not (skipped_unless matched))
+    (listed (codes "/a") (codes "a") ∷ listed (codes "/c") (codes "c") ∷ []) (listed (codes "/c") (codes "c") ∷ [])))
+    (matches_set-Nothing (has []))

@@ -1,5 +1,5 @@
 -- A search that skips files is a search of every file.
-use Rattle.std.proofs.Common.{◌≡◌, ℕ, Bool, true, false, cond, not, List, [], ◌∷◌, filter, refl, sym, ap, ◌∙◌, Option, Some, None}
+use Rattle.std.proofs.Common.{◌≡◌, ℕ, Bool, true, false, cond, not, ◌||◌, ◌++◌, List, [], ◌∷◌, map, filter, refl, sym, ap, ◌∙◌, Option, Some, None}
 use Rattle.std.specs.Prelude.{IsSome, bytes_eq}
 use Rattle.std.specs.List.{list_any}
 use Rattle.std.specs.FinMap as map'
@@ -22,13 +22,15 @@ use Rattle.cs_index.specs.Encoding.{Entry, names_of}
 use Rattle.cs_index.specs.OpenedParts.{Parts, files_in, files_read}
 use Rattle.cs_history.specs.MatchingFiles.{names_matching}
 use Rattle.cs_project.specs.Findings.{Finding}
-use Rattle.cs_project.specs.Project.{nothing_shown, text_shown}
+use Rattle.cs_project.specs.Project.{ItemShown, nothing_shown, text_shown}
+use Rattle.cs_project.specs.Shown.{between, following}
 use Rattle.cs_project.specs.declared.form.ShowOptions.{ShowOptions}
 use Rattle.cs_project.specs.declared.search.LineSearch.{LineSearch}
+use Rattle.cs_fresh.specs.Searched.{item_groups, shown_of, items_printed, are_marked}
 use Rattle.cs_state.specs.Known.{Kept, indexed, binary, apart, ProjectState}
 use Rattle.cs_learned.specs.Skipped.{View, known_as, is_candidate, prints_nothing, prints_unmatched, is_skipped}
 use Rattle.cs_learned.specs.Learned.{Run, StillHolds}
-use Rattle.cs_learned.specs.Fresh.{IsQueryOf, SkippedPrintNothing}
+use Rattle.cs_learned.specs.Fresh.{ListedFile, item_now, IsQueryOf, PrintAlike, IsFresh, SkippedPrintNothing}
 use Rattle.cs_learned.proofs.LearnedLemmas.{known_reads}
 use Rattle.cs_learned.proofs.SkippedTextLemmas.{LinesPrintedIfMarked, binary_shows_nothing, unmatched_shows_nothing}
 
@@ -122,8 +124,54 @@ module _ (law : LinesPrintedIfMarked) (options : ShowOptions) (takes_binary : Bo
   skipped_prints_none : (name : List ℕ) → is_skipped options takes_binary query state now name ≡ true → PrintsNone (now.item name)
   skipped_prints_none name h = by_kept name (known_as state.known name (now.stamp name)) refl h
 
+  skipped_shows_nothing : (listed : ListedFile) → is_skipped options takes_binary query state now listed.name ≡ true →
+      shown_of options takes_binary finding (item_now now listed) ≡ nothing_shown
+  skipped_shows_nothing listed h =
+      let none = skipped_prints_none listed.name h in
+      ap (item_groups options takes_binary finding listed.printed) none.1 ∙ none.2 listed.printed
+
+-- ---- all files
+
+or_false : (b : Bool) → (b || false) ≡ b
+or_false true = refl
+or_false false = refl
+
+module _ (options : ShowOptions) (takes_binary : Bool) (finding : Finding) (now : View) (skips : ListedFile → Bool)
+    (silent : (listed : ListedFile) → skips listed ≡ true →
+    shown_of options takes_binary finding (item_now now listed) ≡ nothing_shown) where
+  abbrev left : List ListedFile → List ListedFile
+  left files = filter (λ listed. not (skips listed)) files
+
+  abbrev Alike : List ListedFile → List ListedFile → Type 0
+  Alike some all = PrintAlike options takes_binary finding (map (item_now now) some) (map (item_now now) all)
+
+  drops : (files : List ListedFile) → Alike (left files) files
+  drops [] = λ marked. (refl, refl)
+  drops (listed ∷ files) = by_test (skips listed) refl (drops files)
+    where
+      by_test : (test : Bool) → skips listed ≡ test → Alike (left files) files →
+          Alike (cond (not test) (listed ∷ left files) (left files)) (listed ∷ files)
+      by_test true e same = λ marked.
+          let none = silent listed e in (
+            (same marked).0 ∙ sym (ap (λ (s : ItemShown). following (between options) marked s.groups
+                ++ items_printed options takes_binary finding (marked || s.marked) (map (item_now now) files)) none
+                ∙ ap (λ m. items_printed options takes_binary finding m (map (item_now now) files)) (or_false marked)),
+            (same marked).1 ∙ sym (ap (λ (s : ItemShown). are_marked options takes_binary finding (marked || s.marked)
+                (map (item_now now) files)) none
+                ∙ ap (λ m. are_marked options takes_binary finding m (map (item_now now) files)) (or_false marked)),
+          )
+      by_test false e same = λ marked.
+          let shown = shown_of options takes_binary finding (item_now now listed) in
+          let rest = same (marked || shown.marked) in
+          (ap (λ r. following (between options) marked shown.groups ++ r) rest.0, rest.1)
+
 -- ---- the laws
 
 pub prints_none : LinesPrintedIfMarked → SkippedPrintNothing
 prints_none law options takes_binary search finding query queried runs state now holds name skipped =
     skipped_prints_none law options takes_binary search finding query queried runs state now holds name skipped
+
+pub is_fresh : LinesPrintedIfMarked → IsFresh
+is_fresh law options takes_binary search finding query queried runs state now holds files =
+    drops options takes_binary finding now (λ listed. is_skipped options takes_binary query state now listed.name)
+    (skipped_shows_nothing law options takes_binary search finding query queried runs state now holds) files

@@ -290,14 +290,19 @@ def judge(crate, wanted):
     if left and "\nlogic=proved" not in check(crate, [])[0]:
         sys.exit(f"{crate.name} is not proved")
     for chosen in rounds(crate, left):
-        said, unfit = check(crate, chosen)
-        for mutant in chosen:
-            found = reasons(mutant, said, unfit, len(chosen) == 1)
-            if not found and len(chosen) > 1:
-                found = reasons(mutant, *check(crate, [mutant]), True)
-            verdict = "refused" if any(found.values()) else "refused, to be read" if found else "NOT REFUSED"
-            verdicts.keep(mutant, verdict, found)
-            tell(mutant, verdict, found)
+        while chosen:
+            said, unfit = check(crate, chosen)
+            found = {it.name: reasons(it, said, unfit, len(chosen) == 1) for it in chosen}
+            if len(chosen) > 1 and not any(found.values()):
+                found[chosen[0].name] = reasons(chosen[0], *check(crate, chosen[:1]), True)
+            # A function is not checked if one that it calls is refused, so a mutant of it waits for the next check.
+            done = [it for it in chosen if found[it.name]] or chosen[:1]
+            for mutant in done:
+                lines = found[mutant.name]
+                verdict = "refused" if any(lines.values()) else "refused, to be read" if lines else "NOT REFUSED"
+                verdicts.keep(mutant, verdict, lines)
+                tell(mutant, verdict, lines)
+            chosen = [it for it in chosen if it not in done]
     return counts
 
 

@@ -2,4 +2,5 @@ mod Examples
 mod OpeningLemmas
 mod StoreLemmas
 mod SumLemmas
+mod WindowLemmas
 mod WriterLemmas

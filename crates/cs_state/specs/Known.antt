@@ -1,5 +1,5 @@
 -- What earlier runs learned of the files of a project.
-use Rattle.std.specs.Prelude.{ℕ, Bool, ◌+◌, ◌&&◌, nat_eq, nat_lt, true, false, List}
+use Rattle.std.specs.Prelude.{ℕ, Bool, ◌+◌, ◌&&◌, nat_eq, nat_lt, List}
 use Rattle.cs_tree.specs.declared.look.Stamp.{Stamp}
 use Rattle.cs_index.specs.OpenedParts.{Parts}
 

@@ -8,3 +8,5 @@ pub mod ProjectStates
 pub mod Others
 pub mod SummedOutputs
 pub mod StateWriters
+pub mod Windows
+pub mod StampReaders

@@ -15,6 +15,7 @@
 mod first_bytes;
 mod opening;
 mod others;
+mod stamps;
 mod state_lengths;
 mod state_writer;
 mod summed;
@@ -22,11 +23,13 @@ mod summed_bytes;
 mod summed_output;
 mod summing;
 mod sums;
+mod window;
 mod writing;
 
 pub use first_bytes::FirstBytes;
 pub use opening::read_lengths;
 pub use others::Unindexed;
+pub use stamps::StampReader;
 pub use state_lengths::StateLengths;
 pub use state_writer::StateWriter;
 pub use summed_bytes::SummedBytes;

@@ -65,7 +65,7 @@ fn lengths_in(end: &[u8], room: usize) -> Option<StateLengths>
 }
 
 /// The big-endian number of eight bytes.
-fn number(bytes: &[u8]) -> u64
+pub(crate) fn number(bytes: &[u8]) -> u64
     requires { length bytes.now ≡ 8 }
     ensures { eight_bytes result ≡ bytes.now }
 {

@@ -1,5 +1,6 @@
 mod Examples
 mod OpeningLemmas
+mod OtherLemmas
 mod StoreLemmas
 mod SumLemmas
 mod WindowLemmas

@@ -10,3 +10,4 @@ pub mod SummedOutputs
 pub mod StateWriters
 pub mod Windows
 pub mod StampReaders
+pub mod OtherReaders

@@ -14,6 +14,7 @@
 
 mod first_bytes;
 mod opening;
+mod other_reader;
 mod others;
 mod stamps;
 mod state_lengths;
@@ -28,7 +29,8 @@ mod writing;
 
 pub use first_bytes::FirstBytes;
 pub use opening::read_lengths;
-pub use others::Unindexed;
+pub use other_reader::OtherReader;
+pub use others::{OtherFile, Unindexed};
 pub use stamps::StampReader;
 pub use state_lengths::StateLengths;
 pub use state_writer::StateWriter;

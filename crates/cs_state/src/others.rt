@@ -1,7 +1,10 @@
 // Files of a project that no index has.
-ghost use Rattle.std.specs.Prelude.{◌≡◌};
+ghost use Rattle.std.specs.Prelude.{◌≡◌, ◌≢◌, IfNone, IfSome};
+ghost use Rattle.cs_state.specs.Known.{Kept, indexed};
 ghost use Rattle.cs_state.specs.Others.{kept_of};
 ghost use Rattle.cs_state.specs.StateFile.{kept_byte};
+
+use cs_tree::Stamp;
 
 /// What a file is that the index does not have.
 #[derive(Clone, Copy, Debug, PartialEq, Eq)]
@@ -12,6 +15,14 @@ pub enum Unindexed {
     Apart,
 }
 
+/// A file that the index does not have.
+#[derive(Debug, Drop)]
+pub struct OtherFile {
+    pub name: String,
+    pub kept: Unindexed,
+    pub stamp: Stamp,
+}
+
 impl Unindexed {
     /// Its byte in a state file.
     pub(crate) fn byte(self) -> u8
@@ -20,6 +31,18 @@ impl Unindexed {
         match self {
             Unindexed::Binary => 1,
             Unindexed::Apart => 2,
+        }
+    }
+
+    /// What has this byte.
+    pub(crate) fn of_byte(byte: u8) -> Option<Unindexed>
+        ensures some { IfSome result (λ found. kept_byte (kept_of found) ≡ byte) }
+        ensures none { IfNone result ((kept : Kept) → kept ≢ indexed → kept_byte kept ≢ byte) }
+    {
+        match byte {
+            1 => Some(Unindexed::Binary),
+            2 => Some(Unindexed::Apart),
+            _ => None,
         }
     }
 }

@@ -162,14 +162,14 @@ next_left bytes part left name text kept stamp at end room new part_is left_is m
     let fits : n ≤ room = omega (arith, p, t, within) in
     let size : n ≡ length all = sym (other_len (other_of name kept stamp)) in
     let whole : end - at ≡ n + (end - (at + n)) = omega (arith, fits, most) in
-    let front : take n left ≡ all = ap (take n) left_is ∙ take-take n (end - at) (drop at bytes) (omega (arith, fits, most))
+    let start : take n left ≡ all = ap (take n) left_is ∙ take-take n (end - at) (drop at bytes) (omega (arith, fits, most))
     ∙ sym (ap (take n) part_is ∙ take-take n room (drop at bytes) fits) ∙ (λ i. take (size i) (first.1 i))
     ∙ take-append_seam all (drop n part) in
-    let back : drop n left ≡ part_of bytes (at + n) (end - (at + n)) = ap (drop n) left_is
+    let more : drop n left ≡ part_of bytes (at + n) (end - (at + n)) = ap (drop n) left_is
     ∙ ap (λ k. drop n (take k (drop at bytes))) whole ∙ drop-take n (end - (at + n)) (drop at bytes)
     ∙ ap (take (end - (at + n))) (drop-drop n at bytes) in
     subst (λ (t : List ℕ). IsFirstOther left (other_of t kept stamp) (part_of bytes new (end - new))) (sym same)
-    (first.0, sym (take-append-drop n left) ∙ (λ i. front i ++ back i) ∙ ap (λ (k : ℕ). all ++ part_of bytes k (end - k)) (sym moved))
+    (first.0, sym (take-append-drop n left) ∙ (λ i. start i ++ more i) ∙ ap (λ (k : ℕ). all ++ part_of bytes k (end - k)) (sym moved))
 
 -- bytes that begin with no name begin with no file
 pub other_first : (bytes : List ℕ) → ((name rest : List ℕ) → IsString name → bytes ≡ name ++ 0 ∷ rest → ⊥) → (known : Known) (rest : List ℕ) →

@@ -11,3 +11,4 @@ pub mod StateWriters
 pub mod Windows
 pub mod StampReaders
 pub mod OtherReaders
+pub mod OpenedStates

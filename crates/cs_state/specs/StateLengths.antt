@@ -16,3 +16,7 @@ pub record HasForm (bytes : List ℕ) (lengths : StateLengths) : Type 0 where
   pub short : length bytes < 2 ^ 32
   pub long : 33 ≤ length bytes
   pub lengths_are : AreLengths (part_of bytes (length bytes - 33) 33) (length bytes - 33) lengths
+
+-- the sections are within what precedes the sums, which is short
+abbrev pub AreWithin : StateLengths → Type 0
+AreWithin lengths = (lengths.index + lengths.stamps ≤ lengths.body) × (lengths.body < 2 ^ 32)

@@ -10,6 +10,12 @@
 //! bytes before the sums, as a store: a piece is tested when a byte of it is read, and not again
 //! while the next reads are in it. `FirstBytes` of these are the index, which `StoredIndex` of
 //! `cs_index` reads as an index in a file of its own; so each byte of it that is read was tested.
+//! `StateFile::open` does these steps. It does not test that there are as many stamps as names.
+//!
+//! *Reading.* A `StampReader` reads stamps by the ids of their names, and an `OtherReader` the
+//! other files one after another, each through a window. Both read any store. They need
+//! `SummedBytes` of their own: a call on `FirstBytes` keeps these, and says nothing of the bytes
+//! after them.
 #![tactic(auto)]
 
 mod first_bytes;
@@ -17,6 +23,7 @@ mod opening;
 mod other_reader;
 mod others;
 mod stamps;
+mod state_file;
 mod state_lengths;
 mod state_writer;
 mod summed;
@@ -32,6 +39,7 @@ pub use opening::read_lengths;
 pub use other_reader::OtherReader;
 pub use others::{OtherFile, Unindexed};
 pub use stamps::StampReader;
+pub use state_file::StateFile;
 pub use state_lengths::StateLengths;
 pub use state_writer::StateWriter;
 pub use summed_bytes::SummedBytes;

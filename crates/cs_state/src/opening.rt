@@ -2,7 +2,7 @@
 ghost use Rattle.std.specs.Prelude.{◌≡◌, ◌<◌, ◌^◌, length, IfOk, IfSome};
 ghost use Rattle.cs_tree.specs.KeepsStore.{KeepsStore};
 ghost use Rattle.cs_state.specs.StateFile.{eight_bytes};
-ghost use Rattle.cs_state.specs.StateLengths.{AreLengths, HasForm};
+ghost use Rattle.cs_state.specs.StateLengths.{AreLengths, AreWithin, HasForm};
 
 use crate::state_lengths::StateLengths;
 use crate::sums::PIECE_LEN;
@@ -16,6 +16,7 @@ const END_LEN: usize = 33;
 /// The lengths of the sections of a state file, if the store has the form of one.
 pub fn read_lengths<S: Store>(alloc: Global, store: &mut S) -> Result<Option<StateLengths>, IoFault>
     ensures form { IfSome (S.model store.old) (λ bytes. IfOk result (λ found. IfSome found (HasForm bytes))) }
+    ensures within { IfOk result (λ found. IfSome found AreWithin) }
     ensures store { KeepsStore S.model S.size S.failed store.old store.new result }
 {
     let len = store.len();

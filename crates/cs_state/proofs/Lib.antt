@@ -1,4 +1,5 @@
 mod Examples
+mod FormLemmas
 mod OpeningLemmas
 mod OtherLemmas
 mod StoreLemmas

@@ -12,3 +12,4 @@ pub mod Windows
 pub mod StampReaders
 pub mod OtherReaders
 pub mod OpenedStates
+pub mod WrittenForm

@@ -19,6 +19,7 @@
 #![tactic(auto)]
 
 mod first_bytes;
+pub mod laws;
 mod opening;
 mod other_reader;
 mod others;

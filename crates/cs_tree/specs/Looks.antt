@@ -3,7 +3,7 @@ use Rattle.std.specs.Prelude.{ℕ, ◌+◌, ◌*◌, ◌^◌, ℤ, pos, nat_lt, 
 use Rattle.cs_tree.specs.declared.tree.Kind.{Kind}
 use Rattle.cs_tree.specs.declared.look.Seen.{Seen}
 
--- the kind of the item; nothing is said of its stamp
+-- the kind of the item
 abbrev pub kind_seen : Seen → Kind
 kind_seen seen = seen.kind
 

@@ -1,10 +1,11 @@
 // The real disk as a tree.
-ghost use Rattle.std.specs.Prelude.{◌≡◌, ◌≤◌, ◌≢◌, ◌⊎◌, ◌↔◌, ◌++◌, ◌∷◌, ◌||◌, not, if◌then◌else◌, pos, ℕ, [], IfOk, IfErr, OnOk, Err, Some, MatchResult, length, map, string_bytes, true, None};
+ghost use Rattle.std.specs.Prelude.{◌≡◌, ◌≤◌, ◌≢◌, ◌⊎◌, ◌↔◌, ◌++◌, ◌∷◌, ◌||◌, not, if◌then◌else◌, pos, ℕ, [], IfOk, IfErr, OnOk, Err, Some, length, map, string_bytes, true, false, None, IsUtf8};
 ghost use Rattle.std.specs.IoError.{error_kind, raw_os_error};
-ghost use Rattle.std.specs.Fs.{file_type, IsDir, IsFile, dir_entry_name};
+ghost use Rattle.std.specs.Fs.{file_type, IsDir, IsFile};
+ghost use Rattle.std.specs.Path.{slash};
 ghost use Rattle.std.specs.List.{list_all};
 ghost use Rattle.std.specs.Io.KnownBytes.{ReadConsumes};
-ghost use Rattle.cs_tree.specs.Folders.{is_element as is_element', are_elements};
+ghost use Rattle.cs_tree.specs.Elements.{are_dots as are_dots', is_element as is_element', are_elements};
 ghost use Rattle.cs_tree.specs.Trees.{listing_names, IsReadFault, is_tree_failure};
 ghost use Rattle.cs_tree.specs.DiskFiles.{DiskFileGives};
 ghost use Rattle.cs_tree.specs.FailureCount.{count_after};
@@ -16,11 +17,13 @@ use crate::ordering::order_names;
 use crate::paths::is_element;
 use crate::retry::{gave_up, is_interrupted, retry_read};
 use crate::tree::{Kind, Listing, Tree};
+use memchr::memchr;
 use std::alloc::{AllocError, Global};
-use std::fs::{DirEntry, Metadata, OpenFile};
+use std::fs::{Metadata, OpenFile};
 use std::io::{ErrorKind, Read};
 use std::os::unix::fs::MetadataExt;
 use std::rt::Files;
+use std::str::from_utf8;
 use std::{fs, io};
 
 /// The real disk, by a runtime. It has no model. Paths go to the system unchanged, so a relative
@@ -56,6 +59,9 @@ struct FileId {
 
 /// The path of standard output (Linux).
 const OUTPUT: &str = "/proc/self/fd/1";
+
+/// How many bytes of names a read of a folder gives at most.
+const NAMES_LEN: usize = 16384;
 
 /// The error of the system if the process can open no more files (EMFILE).
 const PROCESS_DESCRIPTORS: i32 = 24;
@@ -264,7 +270,7 @@ fn list_folder<R: Files + AllocGlobal + Clone + Drop>(
     Err(gave_up())
 }
 
-/// Reads a folder once. Not inlined, since the buffers of std's iterator take 45 KB of the stack.
+/// Reads a folder once. Not inlined, since its buffer takes 16 KB of the stack.
 #[inline(never)]
 fn list_once<R: Files + AllocGlobal + Clone + Drop>(
     alloc: Global,
@@ -277,38 +283,72 @@ fn list_once<R: Files + AllocGlobal + Clone + Drop>(
         names: Vec::new(alloc),
         unnamed: false,
     };
-    'entries: for entry in fs::read_dir(rt, path)? {
-        list_entry(alloc, &mut listing, entry)?;
+    let mut folder = rt.open_dir(folder_path(alloc, path)?.as_str())?;
+    let mut names = [0u8; NAMES_LEN];
+    'reads: for _ in 0..u64::MAX {
+        let len = folder.read(&mut names)?;
+        if len == 0 {
+            // A folder that changes during the read may list a name twice.
+            order_names(&mut listing.names);
+            return Ok(listing);
+        }
+        list_names(alloc, &mut listing, &names[..len])?;
     }
-    // A folder that changes during the read may list a name twice.
-    order_names(&mut listing.names);
-    Ok(listing)
+    Err(gave_up())
 }
 
-/// Adds one entry to the listing. An entry whose name is not text only sets `unnamed`.
-fn list_entry<R: Files + AllocGlobal + Clone + Drop>(
-    alloc: Global,
-    listing: &mut Listing,
-    entry: io::Result<DirEntry<R, Global>>,
-) -> io::Result<()>
-    requires { list_all is_element' (listing_names listing.old) ≡ true }
-    ensures elements { OnOk result (list_all is_element' (listing_names listing.new) ≡ true) }
-    ensures added { OnOk result (MatchResult entry
-        (λ entry. listing_names listing.new ≡ (if is_element' (dir_entry_name entry)
-        then listing_names listing.old ++ dir_entry_name entry ∷ [] else listing_names listing.old))
-        (λ error. (error_kind error ≡ ErrorKind.InvalidFilename)
-        × (listing_names listing.new ≡ listing_names listing.old))) }
-    ensures unnamed { OnOk result (MatchResult entry
-        (λ entry. listing.new.unnamed ≡ (listing.old.unnamed || not (is_element' (dir_entry_name entry))))
-        (λ _. listing.new.unnamed ≡ true)) }
+/// The path of a folder with a slash at its end, so that the system follows a link.
+fn folder_path(alloc: Global, path: &str) -> Result<String, AllocError>
+    ensures { IfOk result (λ folder. string_bytes folder ≡ path.now ++ slash ∷ []) }
 {
-    match entry {
-        Ok(entry) => list_name(alloc, listing, entry.file_name())?,
-        // A name that is not text.
-        Err(error) if error.kind() == ErrorKind::InvalidFilename => listing.unnamed = true,
-        Err(error) => return Err(error),
+    let mut folder = String::with_capacity(alloc, path.len() + 1)?;
+    folder.push_str(path)?;
+    folder.push('/')?;
+    Ok(folder)
+}
+
+/// Adds the names that a read of a folder gave. A NUL follows each.
+fn list_names(alloc: Global, listing: &mut Listing, names: &[u8]) -> Result<(), AllocError>
+    requires { list_all is_element' (listing_names listing.old) ≡ true }
+    ensures { OnOk result (list_all is_element' (listing_names listing.new) ≡ true) }
+{
+    let mut rest = names;
+    'names: while let Some(len) = memchr(0, rest) {
+        let (name, after) = rest.split_at(len);
+        list_entry(alloc, listing, name)?;
+        rest = &after[1..];
     }
     Ok(())
+}
+
+/// Adds the name of an entry, unless it is `.` or `..`. A name that is not text only sets
+/// `unnamed`.
+fn list_entry(alloc: Global, listing: &mut Listing, name: &[u8]) -> Result<(), AllocError>
+    requires { list_all is_element' (listing_names listing.old) ≡ true }
+    ensures elements { OnOk result (list_all is_element' (listing_names listing.new) ≡ true) }
+    ensures dots { OnOk result (are_dots' name.now ≡ true → listing.new ≡ listing.old) }
+    ensures added { OnOk result (are_dots' name.now ≡ false → IsUtf8 name.now →
+        (listing_names listing.new ≡ (if is_element' name.now
+        then listing_names listing.old ++ name.now ∷ [] else listing_names listing.old))
+        × (listing.new.unnamed ≡ (listing.old.unnamed || not (is_element' name.now)))) }
+    ensures unnamed { OnOk result (are_dots' name.now ≡ false → ¬ (IsUtf8 name.now) →
+        (listing_names listing.new ≡ listing_names listing.old) × (listing.new.unnamed ≡ true)) }
+{
+    if are_dots(name) {
+        return Ok(());
+    }
+    let Ok(name) = from_utf8(name) else {
+        listing.unnamed = true;
+        return Ok(());
+    };
+    list_name(alloc, listing, name)
+}
+
+/// Whether a name is `.` or `..`, which each folder has.
+fn are_dots(name: &[u8]) -> bool
+    ensures { result ≡ are_dots' name.now }
+{
+    name == b".".as_slice() || name == b"..".as_slice()
 }
 
 /// Adds a name to the listing. A name that is no element only sets `unnamed`.

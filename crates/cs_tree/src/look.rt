@@ -1,9 +1,11 @@
 // What is at a path, and by what a later change of it shows.
-ghost use Rattle.std.specs.Prelude.{◌≡◌, option_map};
+ghost use Rattle.std.specs.Prelude.{◌≡◌, ℕ, List, Option, None, IfOk, IfSome, option_map};
 ghost use Rattle.cs_tree.specs.FailureCount.{count_after};
 ghost use Rattle.cs_tree.specs.Trees.{Answers, KeepsOpen, RequestsPath, is_tree_failure, kind_of};
 ghost use Rattle.cs_tree.specs.ReadCounts.{after_lookup};
 ghost use Rattle.cs_tree.specs.Looks.{kind_seen};
+ghost use Rattle.cs_tree.specs.Snapshot.{Snapshot};
+ghost use Rattle.cs_tree.specs.declared.look.Stamp.{Stamp};
 
 use crate::fault::TreeFault;
 use crate::tree::{Kind, Tree};
@@ -23,16 +25,21 @@ pub struct Stamp {
 pub struct Seen {
     pub kind: Kind,
     /// The stamp of the item. None if a time is before 1970 or after 2554, or if the tree has no
-    /// stamps. No clause says what it is.
+    /// stamps.
     pub stamp: Option<Stamp>,
 }
 
 /// A tree whose items can be looked at: kind and stamp by one call of the system.
 pub trait Look: Tree {
+    /// The model of the stamps: those of the items at the paths of a snapshot.
+    ghost stamps: { Snapshot → List ℕ → Option Stamp } = { λ _ _. None };
+
     /// The kind and the stamp of the item at the path. It does not follow a symbolic link, and does
     /// not change the open file.
     fn look(&mut self, path: &str) -> Result<Seen, TreeFault>
         ensures answer { Answers kind_seen (Self.snapshot self.old) kind_of path.now result }
+        ensures stamp { IfSome (Self.snapshot self.old)
+            (λ tree. IfOk result (λ seen. seen.stamp ≡ Self.stamps tree path.now)) }
         ensures keeps { Self.snapshot self.new ≡ Self.snapshot self.old }
         ensures open { KeepsOpen (Self.snapshot self.old) (Self.opened self.old) (Self.opened self.new) }
         ensures requested { RequestsPath (Self.longest_requested self.old)

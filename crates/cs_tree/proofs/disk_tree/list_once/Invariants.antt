@@ -5,5 +5,5 @@ use Rattle.cs_tree.specs.Trees.{listing_names}
 use Rattle.cs_tree.proofs.disk_tree.list_once.Given as goal
 
 -- what is listed so far are names
-abbrev pub invariant-entries : goal.invariant-entries
-invariant-entries g l = list_all is_element (listing_names l.listing) ≡ true
+abbrev pub invariant-reads : goal.invariant-reads
+invariant-reads g l = list_all is_element (listing_names l.listing) ≡ true

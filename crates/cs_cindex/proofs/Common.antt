@@ -29,7 +29,7 @@ pub use Rattle.cs_index.specs.Built.{Built, IsBuilt, are_paths, are_reduced, is_
 pub use Rattle.cs_index.specs.Encoding.{Entry, Files, IsString, encoding_of, names_of}
 pub use Rattle.cs_index.specs.OpenedParts.{Parts, are_whole, files_in, paths_in}
 pub use Rattle.cs_index.specs.Stored.{StandsIn, StoredParts}
-pub use Rattle.cs_index.specs.StoredTables.{OpensAs, OpensAsTables, TableParts}
+pub use Rattle.cs_index.specs.Tables.{OpensAs, OpensAsTables, TableParts}
 pub use Rattle.cs_index.specs.declared.fault.IndexFault.{IndexFault}
 pub use Rattle.cs_merge.proofs.DecodedContentLemmas.{from_list_all, map_of_entries, set_of_items}
 pub use Rattle.cs_output.specs.declared.sent.Sent.{Sent}

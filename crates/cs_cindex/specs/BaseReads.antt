@@ -4,7 +4,7 @@ use Rattle.cs_tree.specs.declared.fault.IoFault.{IoFault}
 use Rattle.cs_tree.specs.declared.fault.IoFault.TheVariants.{Failed}
 use Rattle.cs_index.specs.Opening.{opening}
 use Rattle.cs_index.specs.OpenedParts.{Parts}
-use Rattle.cs_index.specs.StoredTables.{TableParts}
+use Rattle.cs_index.specs.Tables.{TableParts}
 use Rattle.cs_index.specs.declared.fault.IndexFault.{IndexFault}
 use Rattle.cs_args.specs.declared.fault.CindexFault.{CindexFault}
 use Rattle.cs_output.specs.declared.sent.Sent.{Sent}

@@ -8,7 +8,7 @@ use Rattle.cs_tree.specs.Folders.{are_distinct}
 use Rattle.cs_tree.specs.Transfers.{is_io_failure}
 use Rattle.cs_tree.specs.declared.fault.IoFault.{IoFault}
 use Rattle.cs_index.specs.OpenedParts.{Parts}
-use Rattle.cs_index.specs.StoredTables.{TableParts, TablesIn}
+use Rattle.cs_index.specs.Tables.{TableParts, TablesIn}
 use Rattle.cs_cindex.specs.Refusals.{unfit_parts_fault}
 
 -- ---- the store

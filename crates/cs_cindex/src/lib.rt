@@ -14,8 +14,8 @@
 //! `cindex_stored` is one job over an old index in a store, and `cindex` runs it over the bytes in
 //! memory, with a `Vec` as the output. Its answer is what becomes of the index, the `IndexUpdate`
 //! of `cs_storage`. A job that updates an index has the paths, the names and the tables of the old
-//! one in memory (`StoredTables` of `cs_index`), and reads each posting list once, after the walk,
-//! through one buffer (`merge_stored` and `is_whole_stored` of `cs_merge`). `-list` and `-reset`
+//! one in memory (`OldIndex` of `cs_index`), and reads each posting list once, after the walk,
+//! through one window (`merge_stored` and `is_whole_stored` of `cs_merge`). `-list` and `-reset`
 //! read no posting list. A read that fails ends the job, before it has printed anything or after
 //! all diagnostics of its walk; what cannot be allocated is an error of the job as any other.
 //!

@@ -1,7 +1,7 @@
 // Lists the paths of an index.
 ghost use Rattle.std.specs.Prelude.{◌≡◌, ◌++◌, ℕ, List, Some, codes};
 ghost use Rattle.cs_tree.specs.FailureCount.{count_after};
-ghost use Rattle.cs_index.specs.StoredTables.{OpensAs};
+ghost use Rattle.cs_index.specs.Tables.{OpensAs};
 ghost use Rattle.cs_cindex.specs.Effects.{WritesOut};
 ghost use Rattle.cs_cindex.specs.KeepsOldIndex.{KeepsOldIndex};
 ghost use Rattle.cs_cindex.specs.Listed.{ListsOver, ListsPaths};

@@ -1,7 +1,7 @@
 // The base index: the index that a job updates.
 ghost use Rattle.std.specs.Prelude.{◌≡◌, ℕ, List, Some, false, map, string_bytes, IfErr, IfOk};
 ghost use Rattle.std.specs.List.{list_all};
-ghost use Rattle.cs_index.specs.StoredTables.{OpensAsTables};
+ghost use Rattle.cs_index.specs.Tables.{OpensAsTables};
 ghost use Rattle.cs_merge.specs.SortedNames.{AreIndexNames};
 ghost use Rattle.cs_tree.specs.Folders.{are_distinct};
 ghost use Rattle.cs_tree.specs.Cleaning.{is_normalized as is_normalized'};
@@ -11,7 +11,7 @@ ghost use Rattle.cs_cindex.specs.OldIndex.{IsFit};
 ghost use Rattle.cs_cindex.specs.Output.{is_failed_write};
 
 use cs_args::CindexFault;
-use cs_index::{IndexFault, NameTable, StoredTables, Texts};
+use cs_index::{IndexFault, NameTable, OldIndex, Texts};
 use cs_tree::{IoFault, Store, is_normalized};
 use std::alloc::{AllocError, Global};
 
@@ -19,31 +19,29 @@ use std::alloc::{AllocError, Global};
 pub(crate) fn open_old<S: Store>(
     alloc: Global,
     store: &mut S,
-) -> Result<Result<StoredTables, CindexFault>, IoFault>
+) -> Result<Result<OldIndex, CindexFault>, IoFault>
     ensures opened { (bytes : List ℕ) → S.model store.old ≡ Some bytes →
         IfOk result (OpensBase bytes) }
     ensures fit { IfOk result (λ opened. IfOk opened IsFit) }
     ensures reads { OnlyReads result }
     ensures store { KeepsStore S.model S.size S.failed store.old store.new result }
 {
-    match StoredTables::open(alloc, store) {
+    match OldIndex::open(alloc, store) {
         Ok(opened) => Ok(tested(alloc, opened)),
         Err(IoFault::Memory) => Ok(Err(CindexFault::Memory)),
         Err(IoFault::Failed) => Err(IoFault::Failed),
     }
 }
 
-/// The tables of an index that can be a base: its paths are normalized, and its names are distinct.
-/// Allocates only if the names do not ascend.
-fn tested(
-    alloc: Global,
-    opened: Result<StoredTables, IndexFault>,
-) -> Result<StoredTables, CindexFault>
+/// An index that can be a base: its paths are normalized, and its names are distinct. Allocates
+/// only if the names do not ascend.
+fn tested(alloc: Global, opened: Result<OldIndex, IndexFault>) -> Result<OldIndex, CindexFault>
     ensures opened { (bytes : List ℕ) → OpensAsTables bytes opened → OpensBase bytes result }
     ensures fit { IfOk result IsFit }
     ensures writes { IfErr result (λ fault. is_failed_write fault ≡ false) }
 {
-    let tables = opened?;
+    let base = opened?;
+    let tables = base.tables();
     if !are_normalized(tables.paths()) {
         return Err(CindexFault::BadIndex(IndexFault::BadPaths));
     }
@@ -51,7 +49,7 @@ fn tested(
     if !are_distinct(alloc, tables.name_table())? {
         return Err(CindexFault::Unsorted);
     }
-    Ok(tables)
+    Ok(base)
 }
 
 /// Whether the names are distinct. Allocates only if they do not ascend.

@@ -5,7 +5,7 @@ ghost use Rattle.cs_tree.specs.KeepsStore.{KeepsStore};
 ghost use Rattle.cs_tree.specs.PathSet as set;
 ghost use Rattle.cs_index.specs.Opening.{opening};
 ghost use Rattle.cs_index.specs.OpenedParts.{Parts};
-ghost use Rattle.cs_index.specs.StoredTables.{TablesIn};
+ghost use Rattle.cs_index.specs.Tables.{TablesIn};
 ghost use Rattle.cs_history.specs.Jobs.{HasAbsoluteFolder};
 ghost use Rattle.cs_cindex.specs.BaseReads.{AnswersMerge, OnlyReads};
 ghost use Rattle.cs_cindex.specs.Effects.{effects};
@@ -25,8 +25,8 @@ use crate::indexing::index_paths;
 use crate::job::JobCall;
 use crate::old::{copied, open_old};
 use cs_args::{CindexFault, IndexJob};
-use cs_index::{Index, IndexFault, StoredTables};
-use cs_merge::{MergeFault, is_replaced_stored, is_whole_stored, merge_stored};
+use cs_index::{Index, IndexFault, Tables};
+use cs_merge::{MergeFault, is_replaced, is_whole_stored, merge_stored};
 use cs_output::{Output, Sent};
 use cs_tree::{IoFault, Sink, Store, Tree, reduce};
 use std::alloc::{AllocError, Global};
@@ -103,11 +103,12 @@ fn extended_index<S: Store, T: Tree, W: Output, E: Sink>(
     ensures tree { KeepsTree T.snapshot T.longest_requested T.read_counts tree.old tree.new }
 {
     let JobCall { alloc, job } = call;
-    let tables = match open_old(alloc, store) {
-        Ok(Ok(tables)) => tables,
+    let base = match open_old(alloc, store) {
+        Ok(Ok(base)) => base,
         Ok(Err(fault)) => return Ok(Err(fault)),
         Err(fault) => return Err(fault),
     };
+    let tables = base.tables();
     let newer = match own_index(alloc, &tables, given, job, tree, err) {
         Ok(newer) => newer,
         Err(fault) => return Ok(Err(fault)),
@@ -119,7 +120,7 @@ fn extended_index<S: Store, T: Tree, W: Output, E: Sink>(
 /// those of the base index.
 fn own_index<T: Tree, E: Sink>(
     alloc: Global,
-    tables: &StoredTables,
+    tables: &Tables<'_>,
     given: &[String],
     job: &IndexJob,
     tree: &mut T,
@@ -141,7 +142,7 @@ fn own_index<T: Tree, E: Sink>(
 /// The reduced paths that a job walks: its own, or, if it has none, those of the index.
 fn paths_to_walk(
     alloc: Global,
-    tables: &StoredTables,
+    tables: &Tables<'_>,
     given: &[String],
 ) -> Result<Vec<String>, AllocError>
     ensures { IfOk result (λ paths. map string_bytes paths.items ≡
@@ -161,7 +162,7 @@ fn paths_to_walk(
 fn merge_old<S: Store, W: Output>(
     alloc: Global,
     store: &mut S,
-    old: &StoredTables,
+    old: &Tables<'_>,
     newer: &[u8],
     new: &mut W,
 ) -> Result<Result<Sent, CindexFault>, IoFault>
@@ -177,7 +178,7 @@ fn merge_old<S: Store, W: Output>(
         Ok(index) => index,
         Err(fault) => return Ok(Err(CindexFault::from(fault))),
     };
-    let Ok(replaced) = is_replaced_stored(alloc, old, &index) else {
+    let Ok(replaced) = is_replaced(alloc, old, &index) else {
         return Ok(Err(CindexFault::Memory));
     };
     if !replaced {

@@ -1,6 +1,6 @@
 pub mod EntryPieces
-pub mod ListBuffers
 pub mod ListPieces
+pub mod ListReads
 pub mod ListSections
 pub mod NamePieces
 pub mod NameStarts
@@ -10,5 +10,5 @@ pub mod SectionReads
 pub mod StoredEntries
 pub mod TextRuns
 pub mod NulRuns
-pub mod StoredTables
+pub mod TableSections
 pub mod Windows

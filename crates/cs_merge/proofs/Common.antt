@@ -5,7 +5,8 @@ pub use Rattle.cs_index.specs.AscendingIds.{AscendWithin, BeginsFrom, ids_onward
 pub use Rattle.cs_index.specs.Built.{are_paths, are_reduced, is_above, is_before, is_storable}
 pub use Rattle.cs_index.specs.Encoding.{Entry, Files, IsString, ListEntry, PostingList, encoding_of, layout, names_of, posting_list_bytes, postings_of, sections_of, three_bytes}
 pub use Rattle.cs_index.specs.Gathering.{list_of}
-pub use Rattle.cs_index.specs.ListBuffers.{BufferState, list_in}
+pub use Rattle.cs_index.specs.ListReading.{BytesAt, HasList, known_ids, list_in}
+pub use Rattle.cs_index.specs.Tables.{TableParts}
 pub use Rattle.cs_index.specs.OpenedParts.{Parts, are_whole, files_in, files_read, ids_read, lists_in, paths_in, whole_ids}
 pub use Rattle.cs_index.specs.PostingLists.{Ids, damage, entries_of, read_ids, set_at}
 pub use Rattle.cs_index.specs.Postings.{IsListFault, ids_given, nothing_read}
@@ -15,14 +16,13 @@ pub use Rattle.cs_index.specs.declared.fault.IndexFault.{IndexFault}
 pub use Rattle.cs_merge.specs.Content.{DecodesAsContent, EachFile, HasContent, IsContent, LieUnder, Opens}
 pub use Rattle.cs_merge.specs.IdMap.{AreByRank, AreDisjoint, AreDropped, AreIdMaps, AreMapped, AreMappedLists, AreMergedNames, AreNamesSoFar, AreNewIdsFrom, AreRunEnds, AreScattered, AreUnique, IsImageOfRun, IsIncreasing, IsInjective, IsMapped, IsMergingNames, IsOfEither, IsRun, NewIds, StayBelow, kept, new, new_id, new_ids_of}
 pub use Rattle.cs_merge.specs.ListMerge.{AreDistinctIds, AreGathered, AreLeft, AreMergedLists, IdRun, IsMappedPostings, IsMergedList, IsRunOf, IsRunOfEither, IsWithinRun, list_ids, list_trigram, lower_of, of_newer, of_older, position_after, run_ids, runs_ids, without_number}
-pub use Rattle.cs_merge.specs.ListSources.{AreAllMerged, HasBuffer, IsListRead, IsMergingLists, IsSourceOf, ids_from, known_parts, source_ids}
+pub use Rattle.cs_merge.specs.OldLists.{AreAllMerged, AreRead, IsMergingLists, IsStored, known_parts, old_ids}
 pub use Rattle.cs_merge.specs.ListsFault.{AreTooLong, IsListsFault, are_whole_from, rest_fault}
 pub use Rattle.cs_merge.specs.Merge.{merge_files, merge_paths}
 pub use Rattle.cs_merge.specs.MergeResult.{IsMergeFault, IsMerged, damaged, long, refused, uncovered}
 pub use Rattle.cs_merge.specs.Mergeable.{AreTested, both_whole, merge_index}
 pub use Rattle.cs_merge.specs.SortedNames.{AreIndexNames, AreSortedNames, AreTestedNames, SortedNames, id_in_order, id_of_rank, names_in_order, sorted_names}
 pub use Rattle.cs_merge.specs.declared.fault.MergeFault.{MergeFault}
-pub use Rattle.cs_merge.specs.declared.list_source.ListSource.{ListSource}
 pub use Rattle.cs_tree.proofs.NameOrderLemmas.{before_trans}
 pub use Rattle.cs_tree.proofs.PathSetLemmas.{alike, contains-union, entries_in_order, find-append, member_satisfies, same_set, some_member, tied_is, tied_same}
 pub use Rattle.cs_tree.proofs.ReduceLemmas.{contains-from_list, items_ascend, ordered_items, true_from_T}

@@ -24,5 +24,5 @@ mod TrigramMergeLemmas
 mod RestLemmas
 mod DistinctIdLemmas
 mod WholeListLemmas
-mod ListSourceLemmas
+mod OldListLemmas
 mod ListLoopLemmas

@@ -1,6 +1,13 @@
 -- Lists that are read for damage only.
-use Rattle.std.proofs.Common.{◌≡◌, ℕ, suc, ◌+◌, ◌<◌, Bool, true, ◌&&◌, length, sym, ap, ◌∙◌, Option, slice_get, drop, drop-cons, arith}
-use Rattle.cs_merge.proofs.Common.{slice_get-get_or, list_all, option_map_or, ListEntry, Parts, ids_read}
+use Rattle.std.proofs.Common.{◌≡◌, ℕ, suc, ◌+◌, ◌<◌, Bool, true, ◌&&◌, length, refl, sym, ap, ◌∙◌, Option, Some, None, option_map, slice_get, drop, drop-cons, arith}
+use Rattle.cs_merge.proofs.Common.{slice_get-get_or, list_all, option_map_or, ListEntry, Parts, Ids, ids_read}
+
+-- whether the list of an entry is whole, if there is one
+pub whole_of : (ids : ListEntry → Ids) (o : Option ListEntry) →
+    option_map_or (λ (found : ℕ × Ids). found.1.whole) (option_map (λ (e : ListEntry). (e.trigram, ids e)) o) true
+    ≡ option_map_or (λ (e : ListEntry). (ids e).whole) o true
+whole_of ids None = refl
+whole_of ids (Some e) = refl
 
 module _ (parts : Parts) where
   abbrev pub whole : ListEntry → Bool

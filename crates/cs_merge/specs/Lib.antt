@@ -19,4 +19,4 @@ pub mod SortedNames
 pub mod IdMap
 pub mod Begun
 pub mod ListMerge
-pub mod ListSources
+pub mod OldLists

@@ -26,17 +26,14 @@
 //!   (`is_replaced`), the merge is the newer index. A caller that has its bytes needs no merge, and
 //!   reads the old lists only for damage (`is_whole_stored`), as `cindex` does.
 //!
-//! `merge_stored` does the same with an old index in a store. One loop over the trigrams
-//! (`merging_trigrams`) serves both: it reads a `ListSource`, which is an index in memory or the
-//! `StoredTables` of one in a store. The lists in memory are read in place. The list of a store
-//! that is merged is in the `ListBuffer`, from which its postings are borrowed; `merge` calls the
-//! loop with a store that it never reads, and with a `Vec` as the output. After each list the loop
-//! sends what is written. One loop (`is_whole_from`) reads lists only for damage: those of an old
-//! index that is replaced, and those that are left of both once the written lists are too long.
-//! What is written is an index whatever the store answers: the trigrams come from the tables, and
-//! any bytes decode as ascending ids. Where the parts of the old index are known, since it is in
-//! memory or the bytes of the store are known, each list is that of the index (`IsMergingLists`).
-//! `is_whole_stored` and `is_replaced_stored` do the same for an old index that is replaced.
+//! `merge_stored` reads the lists of an old index in a store: `Tables` has what is in memory, and
+//! the list that is merged is in a `ListReader`, from which its postings are borrowed. `merge`
+//! calls it with the bytes of the old index as the store, and with a `Vec` as the output. After
+//! each list the loop over the trigrams sends what is written. `is_whole_from` reads old lists only
+//! for damage: those of an index that is replaced, and those that are left once the written lists
+//! are too long. What is written is an index whatever the store answers: the trigrams come from the
+//! tables, and any bytes decode as ascending ids. Where the bytes of the store are known, each list
+//! is that of the index (`IsMergingLists`).
 //!
 //! The contract mentions only the content of both indexes.
 //!
@@ -44,7 +41,7 @@
 //! each delta is a varint of one or two bytes in its shortest form. Longer or padded ones (`81 00`)
 //! are encoded again, so that a content has one encoding. A merged index that is too large is found
 //! while its lists are written; from there on the other lists are only read, since a damaged list
-//! goes before `TooLarge`. `StoredTables::open` reads the tables of a stored index twice: first in
+//! goes before `TooLarge`. `OldIndex::open` reads the tables of a stored index twice: first in
 //! pieces, so that a damaged file of 4 GB is refused in its first piece, and then as a whole, since
 //! a store may have changed.
 #![tactic(auto)]
@@ -54,7 +51,6 @@ mod fault;
 mod id_map;
 mod id_runs;
 pub mod laws;
-mod list_source;
 mod mapped_postings;
 mod merging;
 mod merging_lists;
@@ -64,5 +60,5 @@ mod replacing;
 mod sorted_names;
 
 pub use fault::MergeFault;
-pub use merging::{merge, merge_stored, merge_within};
-pub use replacing::{is_replaced, is_replaced_stored, is_whole_stored};
+pub use merging::{merge, merge_stored};
+pub use replacing::{is_replaced, is_whole_stored};

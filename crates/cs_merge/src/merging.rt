@@ -6,12 +6,12 @@ ghost use Rattle.cs_tree.specs.Cover.{is_covered};
 ghost use Rattle.cs_tree.specs.PathSet as set;
 ghost use Rattle.cs_index.specs.Encoding.{IsString, encoding_of};
 ghost use Rattle.cs_index.specs.OpenedParts.{Parts, paths_in};
-ghost use Rattle.cs_index.specs.StoredTables.{TablesIn};
+ghost use Rattle.cs_index.specs.Tables.{TablesIn};
 ghost use Rattle.cs_index.specs.Sending.{IsSentOn};
 ghost use Rattle.cs_index.specs.Written.{entries_written};
 ghost use Rattle.cs_merge.specs.IdMap.{AreMergedNames};
 ghost use Rattle.cs_merge.specs.Begun.{IsBegun};
-ghost use Rattle.cs_merge.specs.ListSources.{known_parts, IsSourceOf};
+ghost use Rattle.cs_merge.specs.OldLists.{known_parts, IsStored};
 ghost use Rattle.cs_merge.specs.Merge.{merge_paths};
 ghost use Rattle.cs_merge.specs.Mergeable.{AreTested};
 ghost use Rattle.cs_merge.specs.MergeResult.{most_bytes, IsBuildFault, IsGivenIndex, IsIndexWithin, IsMerged, IsMergeAnswer, IsMergeFault};
@@ -20,12 +20,11 @@ ghost use Rattle.cs_merge.specs.SortedNames.{AreIndexNames, AreTestedNames};
 use crate::covering::{Cover, is_under};
 use crate::fault::MergeFault;
 use crate::id_map::IdMaps;
-use crate::list_source::ListSource;
 use crate::merging_lists::BothRuns;
 use crate::merging_names::merge_names;
-use crate::merging_trigrams::{Sides, merge_lists};
+use crate::merging_trigrams::{Sides, are_valid, merge_lists};
 use crate::sorted_names::SortedNames;
-use cs_index::{BuildFault, Index, NameTable, Sections, StoredTables, Texts};
+use cs_index::{BuildFault, Index, NameTable, Sections, Tables, Texts};
 use cs_output::{Output, Sent};
 use cs_tree::{IoFault, MemStore, Store, reduce};
 use std::alloc::{AllocError, Global};
@@ -42,27 +41,15 @@ pub fn merge(alloc: Global, old: &Index<'_>, newer: &Index<'_>) -> Result<Vec<u8
     ensures { MatchResult result (λ index. IsMerged old.now newer.now most_bytes index.items)
         (λ fault. IsMergeFault old.now newer.now most_bytes fault) }
 {
-    merge_within(alloc, u32::MAX, old, newer)
-}
-
-/// `merge` with a maximum length of the index, in bytes, as a parameter.
-pub fn merge_within(
-    alloc: Global,
-    most: u32,
-    old: &Index<'_>,
-    newer: &Index<'_>,
-) -> Result<Vec<u8>, MergeFault>
-    ensures { MatchResult result (λ index. IsMerged old.now newer.now most index.items)
-        (λ fault. IsMergeFault old.now newer.now most fault) }
-{
-    // An index in memory is read in place, so the store is never read.
-    let mut store = MemStore::new(&[], 1);
+    let bytes = old.bytes();
+    let mut store = MemStore::new(bytes, usize::MAX);
+    let tables = Tables::of(bytes);
     let mut index = Vec::new(alloc);
-    let source = ListSource::InMemory(old);
-    match merge_source(alloc, &mut store, most, &source, newer, &mut index) {
+    match merge_stored(alloc, &mut store, u32::MAX, &tables, newer, &mut index) {
         Ok(Ok(_sent)) => Ok(index),
         Ok(Err(fault)) => Err(fault),
-        Err(_unread) => Err(MergeFault::Memory),
+        // Bytes in memory can be read; an allocation failed.
+        Err(_) => Err(MergeFault::Memory),
     }
 }
 
@@ -72,12 +59,12 @@ pub fn merge_within(
 ///
 /// A failed read is an error of its own, and so is an allocation that fails while a list is read.
 /// Both come after the tests for `Unsorted` and `Uncovered`.
-pub fn merge_stored<S: Store, O: Output>(
+pub fn merge_stored<'a, S: Store, O: Output>(
     alloc: Global,
     store: &mut S,
     most: u32,
-    old: &StoredTables,
-    newer: &Index<'_>,
+    old: &'a Tables<'a>,
+    newer: &'a Index<'a>,
     out: &mut O,
 ) -> Result<Result<Sent, MergeFault>, IoFault>
     ensures merged { (bytes : List ℕ) → S.model store.old ≡ Some bytes → (parts : Parts) →
@@ -88,29 +75,9 @@ pub fn merge_stored<S: Store, O: Output>(
     ensures keeps_out { O.Keeps out.old out.new }
     ensures store { KeepsStore S.model S.size S.failed store.old store.new result }
 {
-    merge_source(alloc, store, most, &ListSource::InStore(old), newer, out)
-}
-
-/// Merges an old index that is in memory or in a store.
-fn merge_source<'a, S: Store, O: Output>(
-    alloc: Global,
-    store: &mut S,
-    most: u32,
-    old: &'a ListSource<'a>,
-    newer: &'a Index<'a>,
-    out: &mut O,
-) -> Result<Result<Sent, MergeFault>, IoFault>
-    ensures merged { (parts : Parts) → IsSourceOf (S.model store.old) old.now parts →
-        IfOk result (IsMergeAnswer parts newer.now most) }
-    ensures tested { (parts : Parts) → IsSourceOf (S.model store.old) old.now parts →
-        IfErr result (λ _. AreTested parts newer.now) }
-    ensures given { IfOk result (IsGivenIndex (O.given out.old) (O.given out.new)) }
-    ensures keeps_out { O.Keeps out.old out.new }
-    ensures store { KeepsStore S.model S.size S.failed store.old store.new result }
-{
-    old.are_valid();
+    are_valid(old);
     newer.are_valid();
-    let (sections, ids) = match begin_source(alloc, old, newer) {
+    let (sections, ids) = match begin_merge(alloc, old, newer) {
         Ok(begun) => begun,
         Err(fault) => return Ok(Err(fault)),
     };
@@ -136,7 +103,7 @@ fn merge_begun<S: Store, O: Output>(
         sides.now.runs.older sides.now.runs.newer }
     requires unlisted { sections.lists ≡ [] }
     requires sent { sections.sent ≡ [] }
-    ensures merged { (parts : Parts) → IsSourceOf (S.model store.old) sides.now.older.now parts →
+    ensures merged { (parts : Parts) → IsStored (S.model store.old) sides.now.older.now parts →
         IfOk result (IsMergeAnswer parts sides.now.newer.now most) }
     ensures given { IfOk result (IsGivenIndex (O.given out.old) (O.given out.new)) }
     ensures keeps_out { O.Keeps out.old out.new }
@@ -150,9 +117,9 @@ fn merge_begun<S: Store, O: Output>(
 
 /// An index of the merged paths and names, which has no lists yet, and the id maps of both indexes.
 /// Tests that no name occurs twice and that the newer paths cover the newer names.
-fn begin_source(
+fn begin_merge(
     alloc: Global,
-    old: &ListSource<'_>,
+    old: &Tables<'_>,
     newer: &Index<'_>,
 ) -> Result<(Sections, IdMaps), MergeFault>
     ensures begun { IfOk result
@@ -162,7 +129,7 @@ fn begin_source(
     ensures fault { IfErr result (λ fault. (most : ℕ) (parts : Parts) →
         parts.names ≡ (known_parts old.now).names → IsMergeFault parts newer.now most fault) }
 {
-    old.are_valid();
+    are_valid(old);
     let names = sort_names(alloc, old.name_table(), newer)?;
     begin_merged(alloc, old.paths(), newer, &names)
 }

@@ -1,24 +1,24 @@
 // The merge of the posting lists: a two-way merge by trigram, which reads the lists of each index
 // in their order.
-ghost use Rattle.std.specs.Prelude.{◌≡◌, ◌<◌, ◌^◌, ◌+◌, ◌&&◌, ℕ, [], true, false, Some, None, length, IfErr, IfOk, MatchResult, OnOk};
+ghost use Rattle.std.specs.Prelude.{◌≡◌, ◌<◌, ◌^◌, ◌+◌, ◌&&◌, ℕ, List, Option, [], true, false, Some, None, length, IfErr, IfOk, MatchResult, OnOk};
 ghost use Rattle.cs_tree.specs.KeepsStore.{KeepsStore};
 ghost use Rattle.cs_index.specs.OpenedParts.{Parts};
+ghost use Rattle.cs_index.specs.ValidParts.{AreValidParts};
 ghost use Rattle.cs_index.specs.Postings.{IsListFault};
 ghost use Rattle.cs_index.specs.Sending.{IsSentOn};
 ghost use Rattle.cs_index.specs.Written.{IsSentEarly, Written};
 ghost use Rattle.cs_merge.specs.IdMap.{new_ids_of, new_ids_read, AreIdMaps};
 ghost use Rattle.cs_merge.specs.ListMerge.{list_ids, list_trigram, lower_of, position_after, AreLeft, IsMergedList};
-ghost use Rattle.cs_merge.specs.ListSources.{known_parts, source_ids, AreAllMerged, HasBuffer, IsMergingLists, IsSourceOf};
+ghost use Rattle.cs_merge.specs.OldLists.{known_parts, old_ids, AreAllMerged, AreRead, IsMergingLists, IsStored};
 ghost use Rattle.cs_merge.specs.ListsFault.{are_whole_from, rest_fault, IsListsFault};
 ghost use Rattle.cs_merge.specs.Mergeable.{both_whole};
 
 use crate::fault::MergeFault;
 use crate::id_runs::IdRuns;
-use crate::list_source::ListSource;
 use crate::mapped_postings::MappedPostings;
 use crate::merging_lists::{BothLists, BothRuns, lower, merge_list};
-use crate::replacing::is_whole_from;
-use cs_index::{Index, IndexFault, ListBuffer, Sections};
+use crate::replacing::{READ_LEN, is_newer_whole_from, is_whole_from};
+use cs_index::{Index, IndexFault, ListReader, Sections, Tables};
 use cs_output::Output;
 use cs_tree::{IoFault, Store};
 use std::alloc::Global;
@@ -26,15 +26,15 @@ use std::alloc::Global;
 /// Both indexes, and the id maps of both.
 #[derive(Drop)]
 pub(crate) struct Sides<'a> {
-    pub(crate) older: &'a ListSource<'a>,
+    pub(crate) older: &'a Tables<'a>,
     pub(crate) newer: &'a Index<'a>,
     pub(crate) runs: BothRuns<'a>,
 }
 
-/// The position of the next list of each index, and the bytes of the old lists that were read last.
+/// The position of the next list of each index, and the reader of the old lists.
 #[derive(Drop)]
 struct Progress {
-    buffer: ListBuffer,
+    reader: ListReader,
     older: u32,
     newer: u32,
 }
@@ -54,7 +54,7 @@ pub(crate) fn merge_lists<S: Store, O: Output>(
     requires unlisted { sections.old.lists ≡ [] }
     ensures paths { IfOk result (λ merged. OnOk merged (sections.new.paths ≡ sections.old.paths)) }
     ensures names { IfOk result (λ merged. OnOk merged (sections.new.names ≡ sections.old.names)) }
-    ensures merged { (parts : Parts) → IsSourceOf (S.model store.old) sides.now.older.now parts →
+    ensures merged { (parts : Parts) → IsStored (S.model store.old) sides.now.older.now parts →
         IfOk result (λ merged. MatchResult merged (λ _. AreAllMerged parts sides.now.newer.now
         sides.now.runs.older sides.now.runs.newer sections.new.lists) (IsListsFault parts sides.now.newer.now
         sides.now.runs.older sides.now.runs.newer sections.old most)) }
@@ -64,10 +64,10 @@ pub(crate) fn merge_lists<S: Store, O: Output>(
     ensures keeps_out { O.Keeps out.old out.new }
     ensures store { KeepsStore S.model S.size S.failed store.old store.new result }
 {
-    sides.older.are_valid();
+    are_valid(sides.older);
     sides.newer.are_valid();
     let mut progress = Progress {
-        buffer: ListBuffer::new(alloc),
+        reader: ListReader::new(alloc),
         older: 0,
         newer: 0,
     };
@@ -78,7 +78,7 @@ pub(crate) fn merge_lists<S: Store, O: Output>(
             Err(fault) => return Ok(Err(fault)),
         }
     }
-    let fault = fault_of_rest(alloc, store, sides, &mut progress)?;
+    let fault = fault_of_rest(store, sides, &mut progress)?;
     Ok(Err(fault))
 }
 
@@ -93,12 +93,12 @@ fn send_next<S: Store, O: Output>(
     out: &mut O,
 ) -> Result<Result<bool, MergeFault>, IoFault>
     requires ids { AreIdMaps (length sections.old.names) sides.now.runs.older sides.now.runs.newer }
-    requires so_far { IsMergingLists (S.model store.old) sides.now.older.now progress.old.buffer
+    requires so_far { IsMergingLists (S.model store.old) sides.now.older.now progress.old.reader
         sides.now.newer.now sides.now.runs.older sides.now.runs.newer sections.old sections.old
         progress.old.older progress.old.newer }
     requires early { IsSentEarly sections.old }
     ensures so_far { IfOk result (λ sent. OnOk sent (IsMergingLists (S.model store.old)
-        sides.now.older.now progress.new.buffer sides.now.newer.now
+        sides.now.older.now progress.new.reader sides.now.newer.now
         sides.now.runs.older sides.now.runs.newer sections.old sections.new
         progress.new.older progress.new.newer)) }
     ensures more { IfOk result (λ sent. IfOk sent (λ more. more ≡ true →
@@ -109,7 +109,7 @@ fn send_next<S: Store, O: Output>(
     ensures given { IfOk result (λ sent. OnOk sent
         (IsSentOn sections.old.sent sections.new.sent (O.given out.old) (O.given out.new))) }
     ensures early { IfOk result (λ sent. OnOk sent (IsSentEarly sections.new)) }
-    ensures fault { (old : Parts) → IsSourceOf (S.model store.old) sides.now.older.now old →
+    ensures fault { (old : Parts) → IsStored (S.model store.old) sides.now.older.now old →
         (before : Written) (most : ℕ) → IfOk result (λ sent. IfErr sent (IsListsFault old sides.now.newer.now
         sides.now.runs.older sides.now.runs.newer before most)) }
     ensures keeps_out { O.Keeps out.old out.new }
@@ -135,11 +135,11 @@ fn merge_next<S: Store>(
     progress: &mut Progress,
 ) -> Result<Result<bool, IndexFault>, IoFault>
     requires ids { AreIdMaps (length sections.old.names) sides.now.runs.older sides.now.runs.newer }
-    requires so_far { IsMergingLists (S.model store.old) sides.now.older.now progress.old.buffer
+    requires so_far { IsMergingLists (S.model store.old) sides.now.older.now progress.old.reader
         sides.now.newer.now sides.now.runs.older sides.now.runs.newer sections.old sections.old
         progress.old.older progress.old.newer }
     ensures so_far { IfOk result (λ merged. OnOk merged (IsMergingLists (S.model store.old)
-        sides.now.older.now progress.new.buffer sides.now.newer.now
+        sides.now.older.now progress.new.reader sides.now.newer.now
         sides.now.runs.older sides.now.runs.newer sections.old sections.new
         progress.new.older progress.new.newer)) }
     ensures more { IfOk result (λ merged. IfOk merged (λ more. more ≡ true →
@@ -150,25 +150,33 @@ fn merge_next<S: Store>(
     ensures all { IfOk result (λ merged. IfOk merged (λ more. more ≡ false → lower_of
         (list_trigram (known_parts sides.now.older.now) progress.new.older)
         (list_trigram sides.now.newer.now progress.new.newer) ≡ None)) }
-    ensures fault { (old : Parts) → IsSourceOf (S.model store.old) sides.now.older.now old →
+    ensures fault { (old : Parts) → IsStored (S.model store.old) sides.now.older.now old →
         IfOk result (λ merged. IfErr merged (IsListFault (both_whole old sides.now.newer.now))) }
     ensures store { KeepsStore S.model S.size S.failed store.old store.new result }
 {
-    sides.older.are_valid();
+    are_valid(sides.older);
     sides.newer.are_valid();
-    let newer = ListSource::InMemory(sides.newer);
     let older_trigram = sides.older.trigram_at(progress.older);
-    let newer_trigram = newer.trigram_at(progress.newer);
+    let newer_trigram = trigram_at(sides.newer, progress.newer);
     let Some(trigram) = lower(older_trigram, newer_trigram) else {
         return Ok(Ok(false));
     };
-    sides
-        .older
-        .read(alloc, store, &mut progress.buffer, progress.older)?;
+    progress
+        .reader
+        .read(store, sides.older, progress.older, READ_LEN)?;
     match merge_trigram(alloc, sections, trigram, sides, progress) {
         Ok(()) => Ok(Ok(true)),
         Err(fault) => Ok(Err(fault)),
     }
+}
+
+/// States the invariant of the tables, for callers that use their names and lists.
+pub(crate) fn are_valid(tables: &Tables<'_>)
+    ensures known { AreValidParts (known_parts tables.now) }
+    ensures parts { (model : Option (List ℕ)) (parts : Parts) →
+        IsStored model tables.now parts → AreValidParts parts }
+{
+    tables.are_valid();
 }
 
 /// Merges the lists of a trigram. The old one was read.
@@ -185,58 +193,52 @@ fn merge_trigram(
     requires left { AreLeft (known_parts sides.now.older.now).entries sides.now.newer.now.entries
         sections.old.lists progress.old.older progress.old.newer }
     ensures ok { OnOk result (IsMergedList trigram sections.old sections.new (new_ids_of sides.now.runs.older
-        (source_ids sides.now.older.now progress.old.buffer progress.old.older trigram).ids)
+        (old_ids sides.now.older.now progress.old.reader progress.old.older trigram).ids)
         (new_ids_of sides.now.runs.newer
         (list_ids sides.now.newer.now progress.old.newer trigram).ids) [] []) }
     ensures fault { MatchResult result
-        (λ _. ((source_ids sides.now.older.now progress.old.buffer progress.old.older trigram).whole
+        (λ _. ((old_ids sides.now.older.now progress.old.reader progress.old.older trigram).whole
         && (list_ids sides.now.newer.now progress.old.newer trigram).whole) ≡ true) (IsListFault
-        ((source_ids sides.now.older.now progress.old.buffer progress.old.older trigram).whole
+        ((old_ids sides.now.older.now progress.old.reader progress.old.older trigram).whole
         && (list_ids sides.now.newer.now progress.old.newer trigram).whole)) }
-    ensures buffer { OnOk result (progress.new.buffer ≡ progress.old.buffer) }
+    ensures reader { OnOk result (progress.new.reader ≡ progress.old.reader) }
     ensures older { OnOk result (progress.new.older
         ≡ position_after (known_parts sides.now.older.now) progress.old.older trigram) }
     ensures newer { OnOk result (progress.new.newer
         ≡ position_after sides.now.newer.now progress.old.newer trigram) }
 {
-    sides.older.are_valid();
+    are_valid(sides.older);
     sides.newer.are_valid();
-    let source = ListSource::InMemory(sides.newer);
-    let older = next_list(
+    let reader = &progress.reader;
+    let older = older_list(
         sides.older,
-        &progress.buffer,
+        reader,
         progress.older,
         trigram,
         &sides.runs.older,
     )?;
-    let newer = next_list(
-        &source,
-        &progress.buffer,
-        progress.newer,
-        trigram,
-        &sides.runs.newer,
-    )?;
+    let newer = newer_list(sides.newer, progress.newer, trigram, &sides.runs.newer)?;
     let lists = BothLists { older, newer };
     merge_list(alloc, sections, trigram, lists, &sides.runs)?;
-    progress.older = next_position(sides.older, progress.older, trigram);
-    progress.newer = next_position(&source, progress.newer, trigram);
+    progress.older = next_older(sides.older, progress.older, trigram);
+    progress.newer = next_newer(sides.newer, progress.newer, trigram);
     Ok(())
 }
 
-/// The new ids of the list at the position; no ids if that list has another trigram.
-fn next_list<'a, 'b>(
-    source: &'a ListSource<'a>,
-    buffer: &'a ListBuffer,
+/// The new ids of the old list at the position, which was read; no ids if it has another trigram.
+fn older_list<'a, 'b>(
+    tables: &Tables<'_>,
+    reader: &'a ListReader,
     position: u32,
     trigram: u32,
     runs: &'b IdRuns<'b>,
 ) -> Result<MappedPostings<'a, 'b>, IndexFault>
     ensures { MatchResult result
-        (λ ids. ids ≡ new_ids_read runs.now (source_ids source.now buffer.now position trigram))
+        (λ ids. ids ≡ new_ids_read runs.now (old_ids tables.now reader.now position trigram))
         (λ fault. (fault ≡ IndexFault.BadList)
-        × ((source_ids source.now buffer.now position trigram).whole ≡ false)) }
+        × ((old_ids tables.now reader.now position trigram).whole ≡ false)) }
 {
-    if let Some((found, ids)) = source.list_at(buffer, position) {
+    if let Some((found, ids)) = reader.list_at(tables, position) {
         if found == trigram {
             return MappedPostings::new(ids, runs);
         }
@@ -244,12 +246,55 @@ fn next_list<'a, 'b>(
     Ok(MappedPostings::none(runs))
 }
 
-/// The next position if the list at this one has the trigram, else this position.
-fn next_position(source: &ListSource<'_>, position: u32, trigram: u32) -> u32
-    ensures { result ≡ position_after (known_parts source.now) position trigram }
+/// The new ids of the newer list at the position; no ids if it has another trigram.
+fn newer_list<'a, 'b>(
+    index: &Index<'a>,
+    position: u32,
+    trigram: u32,
+    runs: &'b IdRuns<'b>,
+) -> Result<MappedPostings<'a, 'b>, IndexFault>
+    ensures { MatchResult result
+        (λ ids. ids ≡ new_ids_read runs.now (list_ids index.now position trigram))
+        (λ fault. (fault ≡ IndexFault.BadList) × ((list_ids index.now position trigram).whole ≡ false)) }
 {
-    if position < source.lists() {
-        if let Some(found) = source.trigram_at(position) {
+    if let Some((found, ids)) = index.list_at(position) {
+        if found == trigram {
+            return MappedPostings::new(ids, runs);
+        }
+    }
+    Ok(MappedPostings::none(runs))
+}
+
+/// The trigram of the list at a position of the list index.
+fn trigram_at(index: &Index<'_>, position: u32) -> Option<u32>
+    ensures { result ≡ list_trigram index.now position }
+{
+    match index.list_at(position) {
+        Some((trigram, _ids)) => Some(trigram),
+        None => None,
+    }
+}
+
+/// The next position of the old lists if the one at this position has the trigram, else this one.
+fn next_older(tables: &Tables<'_>, position: u32, trigram: u32) -> u32
+    ensures { result ≡ position_after (known_parts tables.now) position trigram }
+{
+    if position < tables.lists() {
+        if let Some(found) = tables.trigram_at(position) {
+            if found == trigram {
+                return position + 1;
+            }
+        }
+    }
+    position
+}
+
+/// The same for the newer lists.
+fn next_newer(index: &Index<'_>, position: u32, trigram: u32) -> u32
+    ensures { result ≡ position_after index.now position trigram }
+{
+    if position < index.lists() {
+        if let Some(found) = trigram_at(index, position) {
             if found == trigram {
                 return position + 1;
             }
@@ -260,21 +305,18 @@ fn next_position(source: &ListSource<'_>, position: u32, trigram: u32) -> u32
 
 /// The error if the lists so far are too long: a damaged list goes before.
 fn fault_of_rest<S: Store>(
-    alloc: Global,
     store: &mut S,
     sides: &Sides<'_>,
     progress: &mut Progress,
 ) -> Result<MergeFault, IoFault>
-    ensures fault { HasBuffer (S.model store.old) progress.old.buffer → (old : Parts) →
-        IsSourceOf (S.model store.old) sides.now.older.now old → IfOk result (λ fault. fault ≡ rest_fault
+    ensures fault { AreRead (S.model store.old) progress.old.reader → (old : Parts) →
+        IsStored (S.model store.old) sides.now.older.now old → IfOk result (λ fault. fault ≡ rest_fault
         (are_whole_from old progress.old.older && are_whole_from sides.now.newer.now progress.old.newer)) }
     ensures store { KeepsStore S.model S.size S.failed store.old store.new result }
 {
-    let newer = ListSource::InMemory(sides.newer);
-    let buffer = &mut progress.buffer;
-    let older_whole = is_whole_from(alloc, store, sides.older, buffer, progress.older)?;
-    let newer_whole = is_whole_from(alloc, store, &newer, buffer, progress.newer)?;
-    if older_whole && newer_whole {
+    let reader = &mut progress.reader;
+    let older_whole = is_whole_from(store, sides.older, reader, progress.older)?;
+    if older_whole && is_newer_whole_from(sides.newer, progress.newer) {
         Ok(MergeFault::TooLarge)
     } else {
         Ok(MergeFault::Index(IndexFault::BadList))

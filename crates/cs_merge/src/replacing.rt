@@ -1,60 +1,34 @@
 // Where the merge is the newer index as a whole.
-ghost use Rattle.std.specs.Prelude.{◌≡◌, ◌&&◌, ℕ, List, true, Some, slice_get, IfOk, OnOk};
+ghost use Rattle.std.specs.Prelude.{◌≡◌, ℕ, List, true, Some, IfOk};
 ghost use Rattle.std.specs.List.{list_all};
 ghost use Rattle.std.specs.Option.{option_map_or};
 ghost use Rattle.cs_tree.specs.KeepsStore.{KeepsStore};
 ghost use Rattle.cs_tree.specs.Cover.{is_covered};
 ghost use Rattle.cs_tree.specs.PathSet as set;
-ghost use Rattle.cs_index.specs.Encoding.{ListEntry};
 ghost use Rattle.cs_index.specs.OpenedParts.{Parts, are_whole, paths_in};
 ghost use Rattle.cs_index.specs.PostingLists.{Ids};
-ghost use Rattle.cs_index.specs.StoredTables.{TablesIn};
-ghost use Rattle.cs_merge.specs.ListSources.{ids_from, known_parts, HasBuffer, IsSourceOf};
+ghost use Rattle.cs_index.specs.Tables.{TablesIn};
+ghost use Rattle.cs_merge.specs.OldLists.{AreRead, IsStored};
 ghost use Rattle.cs_merge.specs.ListsFault.{are_whole_from};
 ghost use Rattle.cs_merge.specs.Replacing.{is_replaced as is_replaced'};
 
 use crate::covering::Cover;
-use crate::list_source::ListSource;
-use cs_index::{Index, ListBuffer, Postings, StoredTables, Texts};
+use cs_index::{Index, ListReader, Postings, Tables, Texts};
 use cs_tree::{IoFault, Store};
 use std::alloc::{AllocError, Global};
+
+/// The least number of bytes that a read of old lists asks for.
+pub(crate) const READ_LEN: usize = 1 << 18;
 
 /// Whether the newer paths cover all paths and names of the old index. Then the merge is the newer
 /// index, as `laws::what_is_covered_is_replaced` says, unless a list is damaged: see
 /// `is_whole_stored`.
-pub fn is_replaced(alloc: Global, old: &Index<'_>, newer: &Index<'_>) -> Result<bool, AllocError>
-    ensures { IfOk result (λ replaced. replaced ≡ is_replaced' (paths_in newer.now) old.now) }
-{
-    covers_both(alloc, newer, old.paths(), old.names())
-}
-
-/// Does what `is_replaced` does, for an old index in a store.
-pub fn is_replaced_stored(
-    alloc: Global,
-    tables: &StoredTables,
-    newer: &Index<'_>,
-) -> Result<bool, AllocError>
+pub fn is_replaced(alloc: Global, old: &Tables<'_>, newer: &Index<'_>) -> Result<bool, AllocError>
     ensures { IfOk result (λ replaced. (bytes : List ℕ) (parts : Parts) →
-        TablesIn bytes tables.now parts → replaced ≡ is_replaced' (paths_in newer.now) parts) }
-{
-    covers_both(alloc, newer, tables.paths(), tables.names())
-}
-
-/// Whether the newer paths cover these paths and names.
-fn covers_both(
-    alloc: Global,
-    newer: &Index<'_>,
-    paths: Texts<'_>,
-    names: Texts<'_>,
-) -> Result<bool, AllocError>
-    ensures { IfOk result (λ covered. covered ≡ (list_all (is_covered (paths_in newer.now)) paths.entry
-        && list_all (is_covered (paths_in newer.now)) names.entry)) }
+        TablesIn bytes old.now parts → replaced ≡ is_replaced' (paths_in newer.now) parts) }
 {
     let cover = Cover::new(alloc, newer.paths())?;
-    if !covers_all(&cover, paths) {
-        return Ok(false);
-    }
-    Ok(covers_all(&cover, names))
+    Ok(covers_all(&cover, old.paths()) && covers_all(&cover, old.names()))
 }
 
 /// Whether each text is covered.
@@ -74,46 +48,47 @@ fn covers_all(cover: &Cover<'_>, texts: Texts<'_>) -> bool
 pub fn is_whole_stored<S: Store>(
     alloc: Global,
     store: &mut S,
-    tables: &StoredTables,
+    tables: &Tables<'_>,
 ) -> Result<bool, IoFault>
     ensures whole { (bytes : List ℕ) → S.model store.old ≡ Some bytes → (parts : Parts) →
         TablesIn bytes tables.now parts → IfOk result (λ whole. whole ≡ are_whole parts) }
     ensures store { KeepsStore S.model S.size S.failed store.old store.new result }
 {
-    let mut buffer = ListBuffer::new(alloc);
-    is_whole_from(alloc, store, &ListSource::InStore(tables), &mut buffer, 0)
+    let mut reader = ListReader::new(alloc);
+    is_whole_from(store, tables, &mut reader, 0)
 }
 
-/// Whether the lists from a position on are whole. Each one is read first.
+/// Whether the lists of a store from a position on are whole.
 pub(crate) fn is_whole_from<S: Store>(
-    alloc: Global,
     store: &mut S,
-    source: &ListSource<'_>,
-    buffer: &mut ListBuffer,
+    tables: &Tables<'_>,
+    reader: &mut ListReader,
     start: u32,
 ) -> Result<bool, IoFault>
-    ensures whole { HasBuffer (S.model store.old) buffer.old → (parts : Parts) →
-        IsSourceOf (S.model store.old) source.now parts →
+    ensures whole { AreRead (S.model store.old) reader.old → (parts : Parts) →
+        IsStored (S.model store.old) tables.now parts →
         IfOk result (λ whole. whole ≡ are_whole_from parts start) }
-    ensures buffer { HasBuffer (S.model store.old) buffer.old →
-        OnOk result (HasBuffer (S.model store.old) buffer.new) }
     ensures store { KeepsStore S.model S.size S.failed store.old store.new result }
 {
-    'positions: for position in start..source.lists() {
-        source.read(alloc, store, buffer, position)?;
-        if !is_whole_at(&*source, buffer, position) {
+    'positions: for position in start..tables.lists() {
+        reader.read(store, tables, position, READ_LEN)?;
+        if !is_whole_list(reader.list_at(tables, position)) {
             return Ok(false);
         }
     }
     Ok(true)
 }
 
-/// Whether the list at the position is whole, which was read last.
-fn is_whole_at<'a>(source: &'a ListSource<'_>, buffer: &'a ListBuffer, position: u32) -> bool
-    ensures { result ≡ option_map_or (λ (e : ListEntry). (ids_from source.now buffer.now e).whole)
-        (slice_get (known_parts source.now).entries position) true }
+/// Whether the lists of an index in memory from a position on are whole.
+pub(crate) fn is_newer_whole_from(index: &Index<'_>, start: u32) -> bool
+    ensures { result ≡ are_whole_from index.now start }
 {
-    is_whole_list(source.list_at(buffer, position))
+    'positions: for position in start..index.lists() {
+        if !is_whole_list(index.list_at(position)) {
+            return false;
+        }
+    }
+    true
 }
 
 /// Whether the list is whole, if there is one. Most of it is skipped without decoding.

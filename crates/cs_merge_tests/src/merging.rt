@@ -1,9 +1,7 @@
 // The merge of two indexes: worked examples.
 use cs_fakes::{ChangingStore, Files, ONE_FILE, UNSORTED, changed, index_of, one_file_until};
-use cs_index::{Index, IndexFault, StoredTables};
-use cs_merge::{
-    MergeFault, is_replaced, is_replaced_stored, is_whole_stored, merge, merge_stored, merge_within,
-};
+use cs_index::{Index, IndexFault, OldIndex};
+use cs_merge::{MergeFault, is_replaced, is_whole_stored, merge, merge_stored};
 use cs_output::Sent;
 use cs_tree::{IoFault, MemStore, Store};
 use std::alloc::Global;
@@ -109,7 +107,18 @@ fn merge_limited(
     old: &[u8],
     newer: &[u8],
 ) -> Result<Vec<u8>, MergeFault> {
-    merge_within(alloc, most, &Index::open(old)?, &Index::open(newer)?)
+    let mut store = MemStore::new(old, 1 << 20);
+    let Ok(opened) = OldIndex::open(alloc, &mut store) else {
+        return Err(MergeFault::Memory);
+    };
+    let older = opened?;
+    let later = Index::open(newer)?;
+    let mut index = Vec::new(alloc);
+    match merge_stored(alloc, &mut store, most, &older.tables(), &later, &mut index) {
+        Ok(Ok(_sent)) => Ok(index),
+        Ok(Err(fault)) => Err(fault),
+        Err(_) => Err(MergeFault::Memory),
+    }
 }
 
 /// Whether two indexes merge to these bytes if the limit is their length, and fail if it is less.
@@ -175,10 +184,11 @@ fn errors_are_reported(rt: HostRuntime) -> Result<(), Fail> {
 /// Whether the merge is the newer bytes exactly where the newer index is said to replace the old
 /// one.
 fn replaces_alike(alloc: Global, old: &[u8], newer: &[u8]) -> Option<bool> {
-    let older = Index::open(old).ok()?;
+    let mut store = MemStore::new(old, usize::MAX);
+    let opened = OldIndex::open(alloc, &mut store).ok()?.ok()?;
     let later = Index::open(newer).ok()?;
-    let replaced = is_replaced(alloc, &older, &later).ok()?;
-    let merged = merge(alloc, &older, &later).ok()?;
+    let replaced = is_replaced(alloc, &opened.tables(), &later).ok()?;
+    let merged = merge(alloc, &Index::open(old).ok()?, &later).ok()?;
     Some(replaced == (merged.as_slice() == newer))
 }
 
@@ -220,8 +230,8 @@ fn an_index_is_replaced_where_all_is_covered(rt: HostRuntime) -> Result<(), Fail
 /// Whether no list of the index with these bytes is damaged.
 fn is_whole(alloc: Global, bytes: &[u8]) -> Option<bool> {
     let mut store = MemStore::new(bytes, 7);
-    let tables = StoredTables::open(alloc, &mut store).ok()?.ok()?;
-    is_whole_stored(alloc, &mut store, &tables).ok()
+    let old = OldIndex::open(alloc, &mut store).ok()?.ok()?;
+    is_whole_stored(alloc, &mut store, &old.tables()).ok()
 }
 
 #[test]
@@ -270,7 +280,7 @@ fn has_whole_lists(index: &Index<'_>) -> bool {
 }
 
 /// Whether the old index merges alike from a store, whose reads give at most `step` bytes, and from
-/// memory; and whether it is replaced and whole alike.
+/// memory; and whether its lists are whole alike.
 fn merges_alike(
     alloc: Global,
     most: u32,
@@ -281,18 +291,17 @@ fn merges_alike(
     let older = Index::open(old)?;
     let later = Index::open(newer)?;
     let mut store = MemStore::new(old, step.max(1));
-    let tables = StoredTables::open(alloc, &mut store)??;
-    let replaced = is_replaced_stored(alloc, &tables, &later)?
-        == is_replaced(alloc, &older, &later)?;
+    let opened = OldIndex::open(alloc, &mut store)??;
+    let tables = opened.tables();
     let whole = is_whole_stored(alloc, &mut store, &tables)? == has_whole_lists(&older);
     let mut index = Vec::new(alloc);
     let stored = merge_stored(alloc, &mut store, most, &tables, &later, &mut index)?;
-    let merged = match (merge_within(alloc, most, &older, &later), stored) {
+    let merged = match (merge_limited(alloc, most, old, newer), stored) {
         (Ok(want), Ok(_sent)) => index.as_slice() == want.as_slice(),
         (Err(want), Err(fault)) => fault == want,
         _ => false,
     };
-    Ok(replaced && whole && merged)
+    Ok(whole && merged)
 }
 
 #[test]
@@ -323,10 +332,11 @@ fn merge_failing(
     store: &mut ChangingStore<'_>,
     newer: &[u8],
 ) -> Result<Result<Sent, MergeFault>, IoFault> {
-    let tables = match StoredTables::open(alloc, store)? {
-        Ok(tables) => tables,
+    let old = match OldIndex::open(alloc, store)? {
+        Ok(old) => old,
         Err(fault) => return Ok(Err(MergeFault::Index(fault))),
     };
+    let tables = old.tables();
     match Index::open(newer) {
         Ok(newer) => merge_stored(
             alloc,

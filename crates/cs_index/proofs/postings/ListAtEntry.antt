@@ -1,7 +1,7 @@
 -- Reading the posting list of an entry.
 use Rattle.std.specs.Prelude.{bytes_eq}
 use Rattle.std.proofs.Common.{◌≡◌, ℕ, zero, suc, ◌+◌, ◌<◌, ◌≤◌, ◌^◌, cond, List, [], ◌∷◌, length, take, drop, get_or, refl, sym, ap, subst, ◌∙◌, inl, inr, arith, drop-cons, length-drop, length-take}
-use Rattle.cs_index.specs.ListBuffers.{list_in}
+use Rattle.cs_index.specs.ListReading.{list_in}
 use Rattle.cs_index.specs.PostingLists.{damage, read_ids, read_list}
 use Rattle.cs_tree.specs.ByteList.{AreBytes}
 use Rattle.std.proofs.lemmas.Bool.{cases_lt, false_from_ne_true}

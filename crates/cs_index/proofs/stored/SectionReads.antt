@@ -1,6 +1,7 @@
 -- The sections of an index that are read from a store.
-use Rattle.std.proofs.Common.{◌≡◌, ℕ, ◌-◌, ◌≤◌, true, false, not, Vec, Global, [], ◌∷◌, cond, List, length, drop, Option, Some, None, Result, Ok, Err, refl, sym, ap, subst, ◌∙◌, arith, length-drop}
+use Rattle.std.proofs.Common.{◌≡◌, ℕ, ◌-◌, ◌<◌, ◌≤◌, get_or, true, false, not, Vec, Global, [], ◌∷◌, cond, List, length, drop, Option, Some, None, Result, Ok, Err, refl, sym, ap, subst, ◌∙◌, arith, length-drop}
 use Rattle.std.proofs.lemmas.List.{length-take-le}
+use Rattle.std.proofs.lemmas.List.Elements.{All-from_get_or}
 use Rattle.std.specs.Prelude.{IfSome, IfOk, slice_range}
 use Rattle.cs_tree.specs.ByteList.{AreBytes}
 use Rattle.cs_tree.specs.declared.fault.IoFault.{IoFault}
@@ -13,7 +14,7 @@ use Rattle.cs_index.specs.Opening.{is_list_index, is_name_index, is_names_sectio
 use Rattle.cs_index.specs.ValidSections.{AreValidSections, read_split}
 use Rattle.cs_index.specs.StoredOpening.{AreAscendingOffsets, with_lists}
 use Rattle.cs_index.specs.Stored.{StandsIn, StoredParts, DecodesOrFails, sections_at}
-use Rattle.cs_index.specs.StoredTables.{OpensAs}
+use Rattle.cs_index.specs.Tables.{OpensAs}
 use Rattle.cs_index.specs.SectionPieces.{ArePathsRead}
 use Rattle.cs_index.proofs.decoding.DecodableBytesOpen.{rise_from, split_as_decoded}
 use Rattle.cs_index.proofs.decoding.FirstFailure.{fails_so}
@@ -22,6 +23,9 @@ use Rattle.cs_index.proofs.decoding.FirstFailure.{fails_so}
 pub if_modelled : (model : Option (List ℕ)) (P : List ℕ → Type 0) → ((bytes : List ℕ) → model ≡ Some bytes → P bytes) → IfSome model P
 if_modelled None P so = tt
 if_modelled (Some bytes) P so = so bytes refl
+
+pub bytes_fit : (bytes : List ℕ) → ((i : ℕ) → get_or bytes i 0 < 256) → AreBytes bytes
+bytes_fit bytes fit = All-from_get_or (λ b. b < 256) bytes 0 (λ i _. fit i)
 
 -- ---- facts about a store whose model does not change
 

@@ -92,3 +92,7 @@ read_after bytes kept buf head post tail all at k n most len made same size is f
     take_left xs ys zero h = refl
     take_left [] ys (suc m) h = absurd (omega (arith, h))
     take_left (x ∷ xs) ys (suc m) h = ap (λ zs. x ∷ zs) (take_left xs ys m (omega (arith, h)))
+
+pub on_ok_both : {T E A B C R : Type 0} (r : Result T E) → (A → B → C → R) → OnOk r A → OnOk r B → OnOk r C → OnOk r R
+on_ok_both (Ok x) so a b c = so a b c
+on_ok_both (Err e) so a b c = tt

@@ -18,7 +18,7 @@ ghost use Rattle.cs_index.specs.Order.{IsOrderOf};
 use crate::fault::IndexFault;
 use crate::reading::bytes::{is_closed, names_run};
 use crate::reading::entries::{ENTRY_LEN, has_entries, has_offsets};
-use crate::reading::list_buffer::postings_of;
+use crate::reading::list_reader::postings_of;
 use crate::reading::name_table::NameTable;
 use crate::reading::postings::Postings;
 use crate::reading::section_slices::{SectionSlices, split};

@@ -6,7 +6,7 @@ ghost use Rattle.cs_index.specs.OpenedParts.{Parts};
 ghost use Rattle.cs_index.specs.Opening.{split_of};
 ghost use Rattle.cs_index.specs.StoredOpening.{AreAscendingOffsets};
 ghost use Rattle.cs_index.specs.Stored.{DecodesOrFails, StandsIn, sections_at};
-ghost use Rattle.cs_index.specs.StoredTables.{OpensAs};
+ghost use Rattle.cs_index.specs.Tables.{OpensAs};
 ghost use Rattle.cs_index.specs.NameReading.{ReadsNames};
 
 use crate::fault::IndexFault;
@@ -70,6 +70,13 @@ impl StoredIndex {
         ensures { result ≡ self.now.paths }
     {
         Texts::new(&self.paths)
+    }
+
+    /// The number of its names.
+    pub fn name_count(&self) -> u32
+        ensures { result ≡ self.now.name_count }
+    {
+        self.name_count
     }
 
     /// A reader of its names by their ids.

@@ -100,6 +100,19 @@ impl Window {
         kept
     }
 
+    /// Goes to an offset without bytes, if it has bytes past `stop`.
+    pub(crate) fn stop_at(&mut self, at: usize, stop: usize)
+        requires order { at ≤ stop }
+        requires short { self.old.start + length self.old.piece.items < 2 ^ 64 }
+        ensures within { self.new.start + length self.new.piece.items ≤ stop }
+        ensures piece { (bytes : List ℕ) → IsPiece bytes self.old → IsPiece bytes self.new }
+    {
+        if self.start + self.piece.len() > stop {
+            self.piece.clear();
+            self.start = at;
+        }
+    }
+
     /// Passes `used` bytes of a section that ends at `stop`, and reads the next piece. It begins
     /// with the bytes that are left of this one, and has at least twice as many, so a long string
     /// is read a few times. Returns whether any byte is new.

@@ -1,6 +1,6 @@
-// The posting lists of a store, read through one buffer, and those of the same index in memory.
+// The posting lists of a store, read through one window, and those of the same index in memory.
 use cs_fakes::{ChangingStore, ONE_FILE, UNSORTED, changed, one_file_until, strings};
-use cs_index::{Builder, Index, IndexFault, ListBuffer, Postings, StoredTables};
+use cs_index::{Builder, Index, IndexFault, ListReader, OldIndex, Postings};
 use cs_tree::{IoFault, MemStore, Store};
 use std::alloc::Global;
 use std::test::Fail;
@@ -29,17 +29,21 @@ fn are_same(one: Postings<'_>, other: Postings<'_>) -> bool {
 fn reads_lists(alloc: Global, bytes: &[u8], step: usize, least: usize) -> Result<bool, Fail> {
     let index = Index::open(bytes)?;
     let mut store = MemStore::new(bytes, step.max(1));
-    let tables = StoredTables::open(alloc, &mut store)??;
-    let mut buffer = ListBuffer::new(alloc);
+    let old = OldIndex::open(alloc, &mut store)??;
+    let tables = old.tables();
+    let mut reader = ListReader::new(alloc);
     for position in 0..tables.lists() {
-        buffer.read_within(alloc, &mut store, &tables, position, least)?;
+        reader.read(&mut store, &tables, position, least)?;
         let Some((trigram, ids)) = index.list_at(position) else {
             return Ok(false);
         };
-        if tables.trigram_at(position) != Some(trigram) {
+        let Some((found, read)) = reader.list_at(&tables, position) else {
+            return Ok(false);
+        };
+        if found != trigram || tables.trigram_at(position) != Some(trigram) {
             return Ok(false);
         }
-        if !are_same(buffer.list(&tables, position), ids) {
+        if !are_same(read, ids) {
             return Ok(false);
         }
     }
@@ -70,7 +74,7 @@ fn index_of(alloc: Global) -> Result<Vec<u8>, Fail> {
 }
 
 #[test]
-fn lists_at_each_end_of_the_buffer(rt: HostRuntime) -> Result<(), Fail> {
+fn lists_at_each_end_of_the_window(rt: HostRuntime) -> Result<(), Fail> {
     let bytes = index_of(rt.alloc())?;
     for least in 0..20 {
         for step in [1, 7, 1 << 20] {
@@ -109,13 +113,16 @@ fn first_list(
     alloc: Global,
     store: &mut ChangingStore<'_>,
 ) -> Result<Result<bool, IndexFault>, IoFault> {
-    let tables = match StoredTables::open(alloc, store)? {
-        Ok(tables) => tables,
+    let old = match OldIndex::open(alloc, store)? {
+        Ok(old) => old,
         Err(fault) => return Ok(Err(fault)),
     };
-    let mut buffer = ListBuffer::new(alloc);
-    buffer.read(alloc, store, &tables, 0)?;
-    let mut ids = buffer.list(&tables, 0);
+    let tables = old.tables();
+    let mut reader = ListReader::new(alloc);
+    reader.read(store, &tables, 0, 1 << 18)?;
+    let Some((_trigram, mut ids)) = reader.list_at(&tables, 0) else {
+        return Ok(Ok(false));
+    };
     Ok(Ok(ids.next() == Some(Ok(0)) && ids.next().is_none()))
 }
 

@@ -100,20 +100,22 @@ returns-in-Err-clause-walk g c = ((λ index is. tt), (c.in-Err.ensures.reads, be
 
 pub own_index-requires-clause-fit : goal.own_index-requires-clause-fit
 own_index-requires-clause-fit g c =
-    subst (λ (r : Result TableParts CindexFault). IfOk r IsFit) c.in-Ok-Ok.field-0-is c.in-Ok-Ok.ensures.fit
+    subst IsFit (sym c.tables-tables.ensures)
+    (subst (λ (r : Result TableParts CindexFault). IfOk r IsFit) c.in-Ok-Ok.field-0-is c.in-Ok-Ok.ensures.fit)
 
 pub returns-in-Err-own_index-clause-walk : goal.returns-in-Err-own_index-clause-walk
 returns-in-Err-own_index-clause-walk g c =
     let job = c.args.call.job.now in
     let fault = c.in-Err-own_index.fault in
-    let tables = c.in-Ok-Ok.tables in
+    let tables = c.tables-tables.result in
     let to = effects g.T.Tree.snapshot g.T.Tree.failed g.E.Sink.model g.E.Sink.failed c.args.tree.now
     c.own_index.new.tree c.args.err.now c.own_index.new.err in
     let paths = walk_starts (map string_bytes c.args.given.now) tables.paths in
     let part = c.in-Err-own_index.ensures.walk in (
       over_bytes (λ index. AnswersWalk job index (base_fault job index) to (Err fault)) (g.S.Store.model c.args.store.now)
           (λ old known.
-          let fit = subst (OpensBase old) c.in-Ok-Ok.field-0-is (c.in-Ok-Ok.ensures.opened old known) in
+          let fit = subst (IsFitFor old) (sym c.tables-tables.ensures)
+          (subst (OpensBase old) c.in-Ok-Ok.field-0-is (c.in-Ok-Ok.ensures.opened old known)) in
           let walked = walked_as job old tables fit (map string_bytes c.args.given.now) c.requires in (
             tt,
             late job old tables fit to.tree.snapshot fault
@@ -126,7 +128,7 @@ returns-in-Err-own_index-clause-walk g c =
 
 pub merge_old-requires-clause-newer : goal.merge_old-requires-clause-newer
 merge_old-requires-clause-newer g c =
-    let started = set.from_list (starts (map string_bytes c.args.given.now) c.in-Ok-Ok.tables.paths) in
+    let started = set.from_list (starts (map string_bytes c.args.given.now) c.tables-tables.result.paths) in
     let index = c.in-Ok.ensures.walk.0.0 in
     subst IsReducedIndex (sym c.deref.ensures.value)
     (reduced_index (least started) started c.in-Ok.newer.items refl index.1 index.2)
@@ -144,7 +146,7 @@ ends job to IsOld prints writes (Err fault) reads = (reads, prints, writes)
 pub returns-clause-walk : goal.returns-clause-walk
 returns-clause-walk g c =
     let job = c.args.call.job.now in
-    let tables = c.in-Ok-Ok.tables in
+    let tables = c.tables-tables.result in
     let given = map string_bytes c.args.given.now in
     let to = effects g.T.Tree.snapshot g.T.Tree.failed g.E.Sink.model g.E.Sink.failed c.args.tree.now
     c.own_index.new.tree c.args.err.now c.own_index.new.err in
@@ -153,7 +155,8 @@ returns-clause-walk g c =
       over_bytes (λ index. IfOk c.merge_old.result (AnswersWalk job index (base_fault job index) to))
           (g.S.Store.model c.args.store.now)
           (λ old known.
-          let fit = subst (OpensBase old) c.in-Ok-Ok.field-0-is (c.in-Ok-Ok.ensures.opened old known) in
+          let fit = subst (IsFitFor old) (sym c.tables-tables.ensures)
+          (subst (OpensBase old) c.in-Ok-Ok.field-0-is (c.in-Ok-Ok.ensures.opened old known)) in
           let walked = walked_as job old tables fit given c.requires in
           merged_answers job old tables fit to c.deref.result.now
           (subst (IsOwnIndex job to.tree.snapshot (Some old)) (sym c.deref.ensures.value)
@@ -164,7 +167,8 @@ returns-clause-walk g c =
           (after paths
           (λ index is.
           let k = known_bytes (g.S.Store.model c.args.store.now) index is in
-          let fit = subst (OpensBase k.bytes) c.in-Ok-Ok.field-0-is (c.in-Ok-Ok.ensures.opened k.bytes k.model_is) in
+          let fit = subst (IsFitFor k.bytes) (sym c.tables-tables.ensures)
+          (subst (OpensBase k.bytes) c.in-Ok-Ok.field-0-is (c.in-Ok-Ok.ensures.opened k.bytes k.model_is)) in
           walked_as job k.bytes tables fit given c.requires ∙ ap (paths_of_job job) (sym k.index_is))
           part.0.1)
           part.1 c.merge_old.result c.merge_old.ensures.reads,

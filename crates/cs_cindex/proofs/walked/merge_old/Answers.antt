@@ -73,7 +73,7 @@ returns-in-Ok-true-clause-merged g c = λ bytes known parts are.
     (record {
       merges = replaced_merges parts c.in-Ok.index c.args.newer.now (ap are_distinct (sym are.names)
           ∙ c.requires.fit.distinct) c.requires.newer c.in-Ok.ensures.opens
-          (sym (c.in-Ok-is_replaced_stored.ensures bytes parts are) ∙ c.if-not-replaced.false)
+          (sym (c.in-Ok-is_replaced.ensures bytes parts are) ∙ c.if-not-replaced.false)
           (sym (c.in-Ok-true.ensures.whole bytes known parts are) ∙ c.in-Ok-true.field-0-test);
       short = c.requires.newer.short;
     })

@@ -3,7 +3,6 @@ use Rattle.std.proofs.lemmas.Result.{IfOk-weaker}
 use Rattle.cs_merge.proofs.Common.{Parts, known_parts, AreAllMerged, IsListsFault, MergeFault}
 use Rattle.cs_index.proofs.writer.SentOn.{sent_from_none, sent_more}
 use Rattle.cs_merge.proofs.ListLoopLemmas.{on_ok}
-use Rattle.cs_merge.proofs.ListSourceLemmas.{names_known, paths_known}
 use Rattle.cs_merge.proofs.MergeResultLemmas.{begun_maps, begun_of, lists_built, lists_fail}
 use Rattle.cs_merge.proofs.merging.merge_begun.Goals as goal
 
@@ -15,11 +14,10 @@ merge_lists-requires-clause-ids g c =
 
 pub returns-in-Ok-clause-merged : goal.returns-in-Ok-clause-merged
 returns-in-Ok-clause-merged g c parts is =
-    let model = g.S.Store.model c.args.store.now in
     let sides = c.args.sides.now in
     let newer : Parts = sides.newer.now in
     let begun = begun_of (known_parts sides.older.now) parts newer c.args.sections sides.runs.older sides.runs.newer
-    (paths_known model sides.older.now parts is) (names_known model sides.older.now parts is) c.requires.begun in
+    is.tables_are.stands.paths is.tables_are.names c.requires.begun in
     let done = c.in_ok-merge_lists.ensures in
     let all = subst (λ (r : Result (Unit {0}) MergeFault). MatchResult r
     (λ x. AreAllMerged parts newer sides.runs.older sides.runs.newer c.merge_lists.new.sections.lists)
@@ -31,11 +29,10 @@ returns-in-Ok-clause-merged g c parts is =
 
 pub returns-in-Err-clause-merged : goal.returns-in-Err-clause-merged
 returns-in-Err-clause-merged g c parts is =
-    let model = g.S.Store.model c.args.store.now in
     let sides = c.args.sides.now in
     let newer : Parts = sides.newer.now in
     let begun = begun_of (known_parts sides.older.now) parts newer c.args.sections sides.runs.older sides.runs.newer
-    (paths_known model sides.older.now parts is) (names_known model sides.older.now parts is) c.requires.begun in
+    is.tables_are.stands.paths is.tables_are.names c.requires.begun in
     lists_fail parts newer c.args.sections sides.runs.older sides.runs.newer begun c.args.most c.in-Err.fault
     (subst (λ (r : Result (Unit {0}) MergeFault). MatchResult r
     (λ x. AreAllMerged parts newer sides.runs.older sides.runs.newer c.merge_lists.new.sections.lists)

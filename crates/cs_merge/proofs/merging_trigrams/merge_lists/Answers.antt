@@ -1,5 +1,5 @@
 use Rattle.std.proofs.Common.{◌∙◌, sym, subst, refl, arith, Bool, Result, IfErr}
-use Rattle.cs_merge.proofs.Common.{Parts, HasBuffer, IsMergingLists, IsSourceOf, IsListsFault, MergeFault}
+use Rattle.cs_merge.proofs.Common.{Parts, AreRead, IsMergingLists, IsStored, IsListsFault, MergeFault}
 use Rattle.cs_index.proofs.writer.SentOn.{sent_more}
 use Rattle.cs_merge.proofs.ListLoopLemmas.{all_merged, if_ok, merged_on, on_ok}
 use Rattle.cs_merge.proofs.RestLemmas.{rest_says}
@@ -17,9 +17,9 @@ returns-in-Ok-false-clause-merged g c old is =
     let at = c.send_next.new.progress in
     let so_far = on_ok c.in-Ok-false.is c.in_ok-send_next.ensures.so_far in
     let ends = if_ok _ c.in-Ok-false.is c.in_ok-send_next.ensures.all c.in-Ok-false.field-0-test in
-    all_merged (g.S.Store.model c.lists.store) source newer sides.runs.older sides.runs.newer at.buffer c.lists.sections
+    all_merged (g.S.Store.model c.lists.store) source newer sides.runs.older sides.runs.newer at.reader c.lists.sections
     c.send_next.new.sections at.older at.newer so_far ends old
-    (subst (λ model. IsSourceOf model source old) (sym c.lists.invariant.keeps) is)
+    (subst (λ model. IsStored model source old) (sym c.lists.invariant.keeps) is)
 
 pub returns-in-Ok-false-clause-given : goal.returns-in-Ok-false-clause-given
 returns-in-Ok-false-clause-given g c =
@@ -38,7 +38,7 @@ returns-in-Err-clause-merged g c old is =
     let source = sides.older.now in
     subst (λ (r : Result Bool MergeFault). IfErr r (IsListsFault old sides.newer.now sides.runs.older sides.runs.newer
     c.args.sections.now c.args.most)) c.in-Err.is
-    (c.in_ok-send_next.ensures.fault old (subst (λ model. IsSourceOf model source old) (sym c.lists.invariant.keeps) is)
+    (c.in_ok-send_next.ensures.fault old (subst (λ model. IsStored model source old) (sym c.lists.invariant.keeps) is)
     c.args.sections.now c.args.most)
 
 pub returns-in-Err-clause-keeps_out : goal.returns-in-Err-clause-keeps_out
@@ -57,8 +57,8 @@ returns-clause-merged g c old is =
     (c.are_valid.ensures.parts (g.S.Store.model c.args.store.now) old is) c.are_valid-2.ensures c.requires.ids
     c.args.most c.lists.sections at.older at.newer (merging.known old is) c.list_bytes.ensures.written
     (let over = c.lists-test.false in let long = c.list_bytes.ensures.bytes in omega (arith, over, long)) in
-    let rest = c.in_ok-fault.ensures.fault (subst (λ model. HasBuffer model at.buffer) (sym c.lists.invariant.keeps)
-    merging.buffered) old (subst (λ model. IsSourceOf model source old) (sym c.lists.invariant.keeps) is) in
+    let rest = c.in_ok-fault.ensures.fault (subst (λ model. AreRead model at.reader) (sym c.lists.invariant.keeps)
+    merging.read_so_far) old (subst (λ model. IsStored model source old) (sym c.lists.invariant.keeps) is) in
     subst (IsListsFault old newer sides.runs.older sides.runs.newer before c.args.most) (sym rest) said
 
 pub lists-preserved : goal.lists-preserved
@@ -72,10 +72,10 @@ lists-preserved g c =
     let before = c.args.sections.now in
     let inv = c.lists.invariant in
     record {
-      merging = merged_on model source newer sides.runs.older sides.runs.newer at.buffer next.buffer before
+      merging = merged_on model source newer sides.runs.older sides.runs.newer at.reader next.reader before
           c.lists.sections c.send_next.new.sections c.send_next.new.sections at.older at.newer next.older next.newer
           inv.merging
-          (subst (λ m. IsMergingLists m source next.buffer newer sides.runs.older sides.runs.newer c.lists.sections
+          (subst (λ m. IsMergingLists m source next.reader newer sides.runs.older sides.runs.newer c.lists.sections
           c.send_next.new.sections next.older next.newer) inv.keeps
           (on_ok c.in-Ok-true.is c.in_ok-send_next.ensures.so_far))
           refl;

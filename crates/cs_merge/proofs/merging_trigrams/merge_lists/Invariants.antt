@@ -6,7 +6,7 @@ use Rattle.cs_merge.proofs.merging_trigrams.merge_lists.Given as goal
 
 abbrev pub invariant-lists : goal.invariant-lists
 invariant-lists g l = record {
-  merging : IsMergingLists (g.S.Store.model l.fn.store) l.sides.older.now l.progress.buffer l.sides.newer.now
+  merging : IsMergingLists (g.S.Store.model l.fn.store) l.sides.older.now l.progress.reader l.sides.newer.now
       l.sides.runs.older l.sides.runs.newer l.fn.sections l.sections l.progress.older l.progress.newer;
   sent : IsSentOn l.fn.sections.sent l.sections.sent (g.O.Output.given l.fn.out) (g.O.Output.given l.out);
   early : IsSentEarly l.sections;

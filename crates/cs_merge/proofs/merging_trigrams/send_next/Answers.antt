@@ -18,8 +18,8 @@ returns-clause-so_far g c =
     let before = c.args.sections.now in
     let at = c.args.progress.now in
     let next = c.merge_next.new.progress in
-    merged_on (g.S.Store.model c.args.store.now) sides.older.now newer sides.runs.older sides.runs.newer at.buffer
-    next.buffer before before c.merge_next.new.sections c.send.new.self at.older at.newer next.older next.newer
+    merged_on (g.S.Store.model c.args.store.now) sides.older.now newer sides.runs.older sides.runs.newer at.reader
+    next.reader before before c.merge_next.new.sections c.send.new.self at.older at.newer next.older next.newer
     c.requires.so_far (on_ok c.in-Ok-true.is c.in_ok-merge_next.ensures.so_far) c.in-Ok.ensures.ok
 
 pub returns-clause-given : goal.returns-clause-given

@@ -1,6 +1,6 @@
 use Rattle.std.proofs.Common.{◌≡◌, ◌∙◌, ap, sym, length, arith}
 use Rattle.std.proofs.lemmas.List.{take_rest}
-use Rattle.cs_index.specs.ListBuffers.{list_in}
+use Rattle.cs_index.specs.ListReading.{list_in}
 use Rattle.cs_index.specs.Opening.{texts_of}
 use Rattle.cs_index.specs.OpenedParts.{Parts}
 use Rattle.cs_index.specs.PostingLists.{read_list}

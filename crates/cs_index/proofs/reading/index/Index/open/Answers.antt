@@ -1,17 +1,12 @@
-use Rattle.std.proofs.Common.{◌<◌, ◌∙◌, ap, length, refl, sym, arith, ℕ, List, get_or}
-use Rattle.cs_tree.specs.ByteList.{AreBytes}
-use Rattle.std.proofs.lemmas.List.Elements.{All-from_get_or}
+use Rattle.std.proofs.Common.{◌∙◌, ap, length, refl, sym, arith}
 use Rattle.cs_index.specs.Encoding.{SectionBytes}
 use Rattle.cs_index.specs.Opening.{opening}
 use Rattle.cs_index.specs.SectionSlices.{borrowed_sections}
 use Rattle.cs_index.specs.ValidSections.{read_split}
 use Rattle.cs_index.proofs.decoding.DecodableBytesOpen.{opened_decodes}
 use Rattle.cs_index.proofs.decoding.FirstFailure.{fails_so}
-use Rattle.cs_index.proofs.stored.SectionReads.{tested}
+use Rattle.cs_index.proofs.stored.SectionReads.{bytes_fit, tested}
 use Rattle.cs_index.proofs.reading.index.Index.open.Goals as goal
-
-bytes_fit : (bytes : List ℕ) → ((i : ℕ) → get_or bytes i 0 < 256) → AreBytes bytes
-bytes_fit bytes fit = All-from_get_or (λ b. b < 256) bytes 0 (λ i _. fit i)
 
 pub returns-in-Err-clause-opens : goal.returns-in-Err-clause-opens
 unfolding opening

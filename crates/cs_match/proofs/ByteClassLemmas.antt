@@ -1,8 +1,11 @@
 -- The bytes of a class are alike.
-use Rattle.std.proofs.Common.{◌≡◌, ℕ, zero, suc, ◌+◌, ◌-◌, ◌^◌, ◌<◌, ◌≤◌, ◌⊎◌, inl, inr, Bool, true, false, ◌&&◌, ◌||◌, not, List, [], ◌∷◌, take, drop, get_or, refl, sym, ◌∙◌, ap, ap₂, subst, arith, set}
+use Rattle.std.proofs.Common.{◌≡◌, ℕ, zero, suc, ◌+◌, ◌-◌, ◌^◌, ◌<◌, ◌≤◌, ◌⊎◌, inl, inr, Bool, true, false, ◌&&◌, ◌||◌, not, List, [], ◌∷◌, length, take, drop, get_or, refl, sym, ◌∙◌, ap, ap₂, subst, arith, set}
 use Rattle.std.specs.Prelude.{nat_eq}
-use Rattle.std.proofs.lemmas.Bool.{cases_lt, lt-ltb, ne_eqb}
-use Rattle.cs_syntax.specs.Matching.{Tree, Trees, one_of, one_char, cat, alt, rep, none, more, is_word}
+use Rattle.std.proofs.lemmas.Bool.{cases_lt, false_from_ne_true, lt-ltb, ne_eqb}
+use Rattle.cs_syntax.specs.Matching.{Tree, Trees, one_of, one_char, cat, alt, rep, none, more, is_word, member}
+use Rattle.cs_syntax.specs.Members.{IsOnly}
+use Rattle.cs_syntax.specs.ByteSet.{set_of}
+use Rattle.cs_syntax.proofs.ByteSetLemmas.{set_of_at}
 use Rattle.cs_syntax.specs.Cuts.{AreCutsOf}
 use Rattle.cs_syntax.specs.CharSteps.{char_step, is_split, unfinished_after}
 use Rattle.cs_syntax.proofs.CutLemmas.{floor_members}
@@ -129,20 +132,29 @@ module _ (t : Tree) (begins : List ℕ) (classes : ByteClasses) (numbered : AreN
     few = numbered.few;
   }
 
--- one byte more is marked, if it is unlike the byte before it
-pub marks_on : (test : ℕ → Bool) (old new : List ℕ) (byte : ℕ) →
-    ((b : ℕ) → b < byte → begins_at old (suc b) ≡ false → test b ≡ test (suc b)) →
-    ((b : ℕ) → begins_at new b ≡ false → begins_at old b ≡ false) →
-    (begins_at new (byte + 1) ≡ false → test byte ≡ test (byte + 1)) →
-    (b : ℕ) → b < byte + 1 → begins_at new (suc b) ≡ false → test b ≡ test (suc b)
-marks_on test old new byte before kept here b lt e =
-    elim (cases_lt b byte) [
-      | inl less ↦ before b less (kept (suc b) e)
-      | inr same ↦
-          let is : b ≡ byte = omega arith in
-          let next : suc b ≡ byte + 1 = omega arith in
-          ap test is ∙ here (ap (begins_at new) (sym next) ∙ e) ∙ ap test (sym next)
-    ]
+-- the marks of the set of a test
+pub marks_of : (test : ℕ → Bool) (set : List Bool) (old new : List ℕ) → set ≡ set_of test →
+    AddsMarks (λ b c. member set b ≡ member set c) old new → AddsMarks (λ b c. test b ≡ test c) old new
+marks_of test set old new is marks =
+    let at : (k : ℕ) → k < 256 → member set k ≡ test k = λ k low. ap (λ (s : List Bool). member s k) is ∙ set_of_at test k low in
+    record { bytes = marks.bytes; kept = marks.kept; alike = λ b lt e. sym (at b (omega arith)) ∙ marks.alike b lt e ∙ at (suc b) lt }
+
+-- the marks of the only member of a set, and of the byte after it
+pub marks_one : (set : List Bool) (byte next : ℕ) (old some new : List ℕ) → IsOnly set byte → (byte + 1 < 256 → next ≡ byte + 1) →
+    length new ≡ length old → ((b : ℕ) → begins_at new b ≡ false → begins_at some b ≡ false) →
+    ((b : ℕ) → begins_at some b ≡ false → begins_at old b ≡ false) →
+    (begins_at some byte ≡ false → ⊥) → (begins_at new next ≡ false → ⊥) → AddsMarks (λ b c. member set b ≡ member set c) old new
+marks_one set byte next old some new only after bytes later kept first second = record {
+  bytes = bytes;
+  kept = λ b e. kept b (later b e);
+  alike = λ b lt e.
+      let before : member set b ≡ false = false_from_ne_true (member set b) (λ is.
+      let at = only.1 b is in
+      second (ap (begins_at new) (after (omega (arith, at, lt)) ∙ omega (arith, at)) ∙ e)) in
+      let here : member set (suc b) ≡ false = false_from_ne_true (member set (suc b)) (λ is.
+      first (ap (begins_at some) (sym (only.1 (suc b) is)) ∙ later (suc b) e)) in
+      before ∙ sym here;
+}
 
 -- the newline is a class of its own
 newlines : (new : List ℕ) (b : ℕ) → (begins_at new 10 ≡ false → ⊥) → (begins_at new 11 ≡ false → ⊥) →

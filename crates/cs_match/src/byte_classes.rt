@@ -88,11 +88,7 @@ fn mark_words(begins: &mut [u8], bits: LookBehind)
     requires { length begins.old ≡ 256 }
     ensures { AddsMarks (λ b c. (is_word b && bits.word) ≡ (is_word c && bits.word)) begins.old begins.new }
 {
-    for byte in 0..255u8 {
-        let before = bits.is_word(byte);
-        let here = bits.is_word(byte + 1);
-        mark(begins, byte + 1, before, here);
-    }
+    mark_set(&ByteSet::of(|byte| bits.is_word(byte as u8)), begins);
 }
 
 /// Marks where the members of each set of the tree begin and end.
@@ -125,6 +121,11 @@ fn mark_set(set: &ByteSet, begins: &mut [u8])
     requires { length begins.old ≡ 256 }
     ensures { AddsMarks (λ b c. member set.now b ≡ member set.now c) begins.old begins.new }
 {
+    if let Some(byte) = set.single() {
+        mark(begins, byte, false, true);
+        mark(begins, byte.saturating_add(1), false, true);
+        return;
+    }
     for byte in 0..255u8 {
         mark(begins, byte + 1, set.contains(byte), set.contains(byte + 1));
     }
@@ -135,11 +136,7 @@ fn mark_chars(set: &CharSet, begins: &mut [u8])
     requires { length begins.old ≡ 256 }
     ensures { AddsMarks (λ b c. has_char set.now b ≡ has_char set.now c) begins.old begins.new }
 {
-    for byte in 0..255u8 {
-        let before = set.contains(u32::from(byte));
-        let here = set.contains(u32::from(byte + 1));
-        mark(begins, byte + 1, before, here);
-    }
+    mark_set(&ByteSet::of(|byte| set.contains(byte as u32)), begins);
 }
 
 /// Marks the byte if it is in a set and the byte before it is not, or the other way round.

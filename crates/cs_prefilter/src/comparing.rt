@@ -2,7 +2,7 @@
 ghost use Rattle.std.specs.Prelude.{◌≡◌, ◌≤◌, ◌<◌, ◌↔◌, ◌+◌, ◌*◌, ◌-◌, false, length, slice_index_or, vec_len, Any, IfOk, IsTrue};
 ghost use Rattle.cs_prefilter.specs.declared.word.Word.{Word};
 ghost use Rattle.cs_prefilter.specs.Prefixes.{HavePrefixes};
-ghost use Rattle.cs_prefilter.specs.WordAt.{MayBeAt, WordAt};
+ghost use Rattle.cs_prefilter.specs.WordAt.{WordAt};
 ghost use Rattle.cs_prefilter.specs.WordBuckets.{AreInBuckets, NoneOfBucket, bucket_work};
 ghost use Rattle.cs_prefilter.specs.OffsetWork.{most_words, most_sets, word_work, candidate_work};
 ghost use Rattle.cs_prefilter.specs.CountsAtMost.{CountsAtMost};
@@ -103,7 +103,9 @@ impl Word {
         ensures found { IsTrue result ↔ WordAt text.now offset self.now }
         ensures work { CountsAtMost most_sets steps.old steps.new }
     {
-        if text.len() - offset < self.sets.len() || !self.may_be_at(text, offset) {
+        if text.len() - offset < self.sets.len()
+            || offset > 0 && !self.before.contains(text[offset - 1])
+        {
             return false;
         }
         for (i, set) in self.sets.iter().enumerate() {
@@ -113,14 +115,6 @@ impl Word {
             }
         }
         true
-    }
-
-    /// Whether the byte before the offset lets the word occur.
-    fn may_be_at(&self, text: &[u8], offset: usize) -> bool
-        requires { offset ≤ length text.now }
-        ensures { IsTrue result ↔ MayBeAt text.now offset self.now }
-    {
-        offset == 0 || self.before.contains(text[offset - 1])
     }
 }
 

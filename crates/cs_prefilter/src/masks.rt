@@ -9,7 +9,7 @@ ghost use Rattle.cs_prefilter.specs.WordBuckets.{AreFound};
 use crate::buckets::{BUCKETS, bucket_of};
 use crate::lanes::{both, by_high_nibble, by_low_nibble, load};
 use crate::probe::Probe;
-use crate::rarity::nibble_frequencies;
+use crate::rarity::NIBBLE_FREQUENCIES;
 use crate::word::Word;
 use cs_syntax::ByteSet;
 use std::simd::prelude::*;
@@ -26,15 +26,13 @@ pub(crate) struct NibbleMasks {
     high: [u8; 16],
 }
 
-impl NibbleMasks {
-    /// The masks by which no byte is in a bucket.
-    fn new() -> NibbleMasks {
-        NibbleMasks {
-            low: [0; 16],
-            high: [0; 16],
-        }
-    }
+/// The masks by which no byte is in a bucket.
+const NONE: NibbleMasks = NibbleMasks {
+    low: [0; 16],
+    high: [0; 16],
+};
 
+impl NibbleMasks {
     /// Adds the byte to the bucket.
     fn add_byte(&mut self, byte: u8, bucket: usize)
         requires { bucket < BUCKETS }
@@ -82,13 +80,12 @@ impl NibbleMasks {
         }
     }
 
-    /// The frequency of the bytes that have the bucket by their low nibbles, per 10,000, given
-    /// those of the nibbles.
-    fn low_frequency(&self, bucket: usize, frequencies: &[u64; 16]) -> u64
+    /// The frequency of the bytes that have the bucket by their low nibbles, per 10,000.
+    fn low_frequency(&self, bucket: usize) -> u64
         requires { bucket < BUCKETS }
     {
         let mut sum = 0u64;
-        for (i, frequency) in frequencies.iter().enumerate() {
+        for (i, frequency) in NIBBLE_FREQUENCIES.iter().enumerate() {
             if self.low[i] >> bucket & 1 == 1 {
                 sum = sum.saturating_add(*frequency);
             }
@@ -113,9 +110,9 @@ impl TrigramMasks {
         ensures { IfSome result (λ masks. AreFound (HasBucket masks) words.now) }
     {
         let mut trigram_masks = TrigramMasks {
-            first: NibbleMasks::new(),
-            second: NibbleMasks::new(),
-            third: NibbleMasks::new(),
+            first: NONE,
+            second: NONE,
+            third: NONE,
         };
         for (i, word) in words.iter().enumerate() {
             if word.sets.len() < 3 {
@@ -140,12 +137,11 @@ impl TrigramMasks {
 
     /// Whether the low nibbles rule out enough offsets.
     pub(crate) fn is_low(&self) -> bool {
-        let frequencies = nibble_frequencies();
         let mut share = 0u64;
         for bucket in 0..BUCKETS {
-            let first = self.first.low_frequency(bucket, &frequencies);
-            let second = self.second.low_frequency(bucket, &frequencies);
-            let third = self.third.low_frequency(bucket, &frequencies);
+            let first = self.first.low_frequency(bucket);
+            let second = self.second.low_frequency(bucket);
+            let third = self.third.low_frequency(bucket);
             share = share.saturating_add(first.saturating_mul(second).saturating_mul(third));
         }
         share < MOST_LOW

@@ -1,38 +1,41 @@
 // Pairs of bytes (the packed pairs of memchr's memmem): two rare bytes of a word, compared at their
 // distance by vectors, for one or two words whose letters may be folded.
 ghost use Rattle.std.specs.Prelude.{◌≡◌, ◌≢◌, ℕ, ◌+◌, ◌<◌, ◌≤◌, length, slice_index, IsTrue, IfSome, bit_and};
-ghost use Rattle.cs_prefilter.specs.Pairs.{IsPairOf, HasMasks, MarksPair};
 
 use crate::byte_test::ByteTest;
 use crate::lanes::{both, either};
-use crate::pair::Pair;
 use crate::probe::Probe;
-use crate::rarity::{MOST_SETS, frequency_of, rarest_pair};
+use crate::rarity::{MOST_SETS, rarest_pair};
 use crate::word::Word;
 use std::simd::prelude::*;
 
+/// Tests of two bytes of a word. They are the same test if the word has only one that can be
+/// tested.
+#[derive(Clone, Copy, Drop)]
+pub(crate) struct Pair {
+    pub(crate) first: ByteTest,
+    pub(crate) first_at: usize,
+    pub(crate) second: ByteTest,
+    pub(crate) second_at: usize,
+    ghost near: { first_at < 32 },
+    ghost second_near: { second_at < 32 },
+}
+
 impl Pair {
+    ghost use Rattle.cs_prefilter.specs.Pairs.{IsPairOf, HasMasks, MarksPair};
+
     /// The rarest pair of the word, if it is rare enough.
     pub(crate) fn of(word: &Word) -> Option<Pair>
         ensures { IfSome result (λ pair. IsPairOf pair word.now) }
     {
-        let sets = &word.sets[..];
-        let mut frequencies = [0; MOST_SETS];
-        for (i, set) in sets.iter().enumerate() {
-            if i < MOST_SETS {
-                frequencies[i] = frequency_of(set);
-            }
-        }
-        let (first_at, second_at) = rarest_pair(sets, &frequencies)?;
+        let (first_at, second_at) = rarest_pair(&word.sets)?;
         if first_at >= MOST_SETS || second_at >= MOST_SETS {
             return None;
         }
-        let first = sets.get(first_at)?;
-        let second = sets.get(second_at)?;
         Some(Pair {
-            first: ByteTest::of(first)?,
+            first: ByteTest::of(word.sets.get(first_at)?)?,
             first_at,
-            second: ByteTest::of(second)?,
+            second: ByteTest::of(word.sets.get(second_at)?)?,
             second_at,
         })
     }

@@ -25,14 +25,28 @@ fn frequency(byte: u8) -> u64 {
     }
 }
 
-/// The frequencies of the low nibbles of the bytes of source text, per 10,000 bytes.
-pub(crate) fn nibble_frequencies() -> [u64; 16] {
-    let mut frequencies = [0u64; 16];
-    for byte in 0..=255u8 {
-        let nibble = (byte % 16) as usize;
-        frequencies[nibble] = frequencies[nibble].saturating_add(frequency(byte));
+/// The sums of `frequency` over the bytes of each low nibble.
+pub(crate) const NIBBLE_FREQUENCIES: [u64; 16] = [
+    1990, 670, 860, 950, 1080, 980, 510, 460, 520, 1088, 598, 340, 560, 520, 680, 922,
+];
+
+/// The frequency of all bytes.
+const ALL: u64 = 10_000;
+
+/// The frequency of the bytes of a set in source text, per 10,000 bytes.
+fn frequency_of(set: &ByteSet) -> u64 {
+    if let Some(test) = ByteTest::of(set) {
+        let other_case = test.byte & !test.mask;
+        let other = u64::from(test.mask != 0).saturating_mul(frequency(other_case));
+        return frequency(test.byte).saturating_add(other);
     }
-    frequencies
+    let mut sum = 0u64;
+    for byte in 0..=255u8 {
+        if set.contains(byte) {
+            sum = sum.saturating_add(frequency(byte));
+        }
+    }
+    sum.min(ALL)
 }
 
 /// Common trigrams, which are far more frequent in source text than the frequencies of their bytes
@@ -48,25 +62,12 @@ const COMMON: [[u8; 3]; 44] = [
 /// The share of offsets at which a common trigram is expected, in units of 10^-12.
 const COMMON_SHARE: u64 = 500_000_000;
 
-/// The frequency of the bytes of a set in source text, per 10,000 bytes.
-pub(crate) fn frequency_of(set: &ByteSet) -> u64 {
-    if let Some(byte) = set.single() {
-        return frequency(byte);
-    }
-    let mut sum = 0u64;
-    for byte in 0..=255u8 {
-        if set.contains(byte) {
-            sum = sum.saturating_add(frequency(byte));
-        }
-    }
-    sum.min(10000)
-}
-
 /// The share of offsets of the common trigrams that are in the sets, in units of 10^-12.
-fn common_share(sets: [&ByteSet; 3]) -> u64 {
+fn common_share(sets: &[ByteSet]) -> u64 {
+    let [a, b, c] = sets else { return 0 };
     let mut sum = 0u64;
     for [first, second, third] in COMMON {
-        if sets[0].contains(first) && sets[1].contains(second) && sets[2].contains(third) {
+        if a.contains(first) && b.contains(second) && c.contains(third) {
             sum = sum.saturating_add(COMMON_SHARE);
         }
     }
@@ -84,30 +85,32 @@ pub(crate) struct Part {
 /// Below this share of offsets, in units of 10^-12, candidates cost little.
 pub(crate) const RARE: u64 = 1_000_000_000;
 
-/// The rarest three neighbouring sets of a run, given the frequencies of its sets, or the first: a
-/// word that begins where the run does may be exact, which pays where it is frequent.
-fn rarest_trigram(run: &[ByteSet], frequencies: &[u64]) -> Option<Part> {
-    let mut best = None;
-    let mut share = u64::MAX;
+/// The rarest three neighbouring sets of a run, or the first: a word that begins where the run does
+/// may be exact, which pays where it is frequent. Behind fewer sets any bytes follow.
+fn rarest_trigram(run: &[ByteSet]) -> Part {
+    let mut rarest = Part { from: 0, share: 0 };
     let mut first = 0;
-    for (from, sets) in run.windows(3).enumerate() {
-        let mut next = 1u64;
-        for frequency in frequencies.iter().skip(from).take(3) {
-            next = next.saturating_mul(*frequency);
-        }
-        let next = next.saturating_add(common_share([&sets[0], &sets[1], &sets[2]]));
+    let mut older = ALL;
+    let mut old = ALL;
+    for (i, set) in run.iter().enumerate() {
+        let frequency = frequency_of(set);
+        let from = i.saturating_sub(2);
+        let share = older.saturating_mul(old).saturating_mul(frequency);
+        let share = share.saturating_add(common_share(&run[from..=i]));
         if from == 0 {
-            first = next;
+            first = share;
         }
-        if next < share {
-            share = next;
-            let is_common = COMMON_SHARE <= first && first < RARE;
-            let is_near = first < next.saturating_mul(2).min(RARE);
-            let from = if is_common || is_near { 0 } else { from };
-            best = Some(Part { from, share });
+        if from == 0 || share < rarest.share {
+            rarest = Part { from, share };
         }
+        older = old;
+        old = frequency;
     }
-    best
+    let is_common = COMMON_SHARE <= first && first < RARE;
+    if is_common || first < rarest.share.saturating_mul(2).min(RARE) {
+        rarest.from = 0;
+    }
+    rarest
 }
 
 /// Above this share of offsets, per 10^8, a pair is not worth its search.
@@ -120,107 +123,70 @@ const NO_SECOND: u64 = 30_000;
 /// A set of more bytes, as those behind a word, rules out little.
 const MOST_MEMBERS: u32 = 128;
 
-/// How rare two neighbouring letters of source text are, the underscore as the last: `a` is 1, and
-/// each further letter half as frequent. They were counted in a text that is 60 % Linux, and Python
-/// modules and C headers for the rest.
-const BIGRAMS: [[u8; 27]; 27] = [
-    *b"pkjjpnkpkpmijipksijhllollpn",
-    *b"lpnojqqqlmsjpplosmnokssslso",
-    *b"jplnioojkujjmpimrkmjlqrqmsm",
-    *b"konlioopjqqmmplnrllmlonqnul",
-    *b"jmjikjkompnijinkkhhinkmjlqk",
-    *b"kpoollptjvtmppjpslmmltrrnwo",
-    *b"mqoqjqnllttmnmnlullnlrrrprm",
-    *b"jqoohsrsjuroopkpumnlnrptmqn",
-    *b"kkjkjjkrnqnjkhikpkiiolsmsln",
-    *b"putsmsutqutttrnrtuqtourxvrr",
-    *b"nqopjrormsroqooqsplpnsouqun",
-    *b"jookijorjtmjpojnuokkkonqktm",
-    *b"ilnnipqqkuqllokjrqknlqooptn",
-    *b"jpjiilipkqmmoljmqpjilmqomrl",
-    *b"mljjnjlplpljjhljrhkjjlknqqn",
-    *b"jpmnjoolktoknqjkqjljlqoomsm",
-    *b"runqrsvuszzqptrswrptktvswwp",
-    *b"jollhmkqismlkkinokjjkmookql",
-    *b"lnjnhnokjsmmnnkkpnjikpnqkql",
-    *b"iolnhmqhhtplnpilsijkkpmnkqk",
-    *b"lmllkmmrlsrjkjojwjjjsqtmtsn",
-    *b"kponjpotkvtqoqmpuppqqtttsvp",
-    *b"lrqplrslkwrpnnlrrmnrstossxn",
-    *b"mqmpmorrmtvporqmtqqkrtuootn",
-    *b"lqprornunusmommkuokmrrntssm",
-    *b"otstlstrowsqrsotursrsuvvpsq",
-    *b"lmllmmmnlrnlmmmlplklnmnprql",
-];
+/// How rare two neighbouring letters of source text are, 27 entries for each first letter, the
+/// underscore as the last: `a` is 1, and each further letter half as frequent. They were counted in
+/// a text that is 60 % Linux, and Python modules and C headers for the rest.
+const BIGRAMS: &[u8; 729] = b"\
+    pkjjpnkpkpmijipksijhllollpnlpnojqqqlmsjpplosmnokssslsojplnioojkujjmpimrkmjlqrqmsm\
+    konlioopjqqmmplnrllmlonqnuljmjikjkompnijinkkhhinkmjlqkkpoollptjvtmppjpslmmltrrnwo\
+    mqoqjqnllttmnmnlullnlrrrprmjqoohsrsjuroopkpumnlnrptmqnkkjkjjkrnqnjkhikpkiiolsmsln\
+    putsmsutqutttrnrtuqtourxvrrnqopjrormsroqooqsplpnsouqunjookijorjtmjpojnuokkkonqktm\
+    ilnnipqqkuqllokjrqknlqooptnjpjiilipkqmmoljmqpjilmqomrlmljjnjlplpljjhljrhkjjlknqqn\
+    jpmnjoolktoknqjkqjljlqoomsmrunqrsvuszzqptrswrptktvswwpjollhmkqismlkkinokjjkmookql\
+    lnjnhnokjsmmnnkkpnjikpnqkqliolnhmqhhtplnpilsijkkpmnkqklmllkmmrlsrjkjojwjjjsqtmtsn\
+    kponjpotkvtqoqmpuppqqtttsvplrqplrslkwrpnnlrrmnrstossxnmqmpmorrmtvporqmtqqkrtuootn\
+    lqprornunusmommkuokmrrntssmotstlstrowsqrsotursrsuvvpsqlmllmmmnlrnlmmmlplklnmnprql";
 
-/// The row of a letter in the table, and whether it is a capital.
-fn row_of(set: &ByteSet) -> Option<(usize, bool)> {
-    let test = ByteTest::of(set)?;
+/// The row of a letter in the table.
+fn row_of(test: ByteTest) -> Option<u8> {
     match test.byte {
-        b'_' => Some((26, false)),
-        b'a'..=b'z' => Some(((test.byte - b'a') as usize, false)),
-        b'A'..=b'Z' => Some(((test.byte - b'A') as usize, true)),
+        b'_' => Some(26),
+        b'a'..=b'z' => Some(test.byte - b'a'),
+        b'A'..=b'Z' => Some(test.byte - b'A'),
         _ => None,
     }
 }
 
-/// How rare the two letters are as neighbours, by the rows of the table.
-fn level_of(first: usize, second: usize) -> Option<u32> {
-    let level = BIGRAMS.get(first)?.get(second)?;
-    Some(u32::from(level.saturating_sub(b'a')))
-}
-
-/// The share of offsets of two neighbouring sets, per 10^8, given that of independent ones. A
-/// capital makes them rarer.
-fn share_of_neighbours(first: &ByteSet, second: &ByteSet, independent: u64) -> u64 {
-    let (Some((i, is_capital)), Some((j, is_second_capital))) = (row_of(first), row_of(second))
-    else {
-        return independent;
-    };
-    let Some(level) = level_of(i, j) else {
-        return independent;
-    };
-    let capitals = if is_capital || is_second_capital {
+/// The share of offsets of two neighbouring letters, per 10^8. A capital makes them rarer.
+fn share_of_letters(first: ByteTest, second: ByteTest) -> Option<u64> {
+    let row = usize::from(row_of(first)?);
+    let level = *BIGRAMS.get(27 * row + usize::from(row_of(second)?))?;
+    let capitals = if first.byte < b'_' || second.byte < b'_' {
         4
     } else {
         0
     };
-    100_000_000u64
-        .checked_shr(level.saturating_add(capitals))
-        .unwrap_or(0)
+    100_000_000u64.checked_shr(u32::from(level.saturating_sub(b'a')) + capitals)
 }
 
-/// The indices of the rarest two sets that can be tested by a comparison, given the frequencies of
-/// the sets, if they are rare enough. They are the same if there is one such set.
-pub(crate) fn rarest_pair(run: &[ByteSet], frequencies: &[u64]) -> Option<(usize, usize)> {
-    let first = rarest_tested(run, frequencies, None)?;
-    let second = rarest_tested(run, frequencies, Some(first)).unwrap_or(first);
-    let rest = if run.iter().filter(|set| set.len() <= MOST_MEMBERS).count() == 1 {
+/// The indices of the rarest two sets that can be tested by a comparison, if they are rare enough.
+/// They are the same if there is one such set.
+pub(crate) fn rarest_pair(run: &[ByteSet]) -> Option<(usize, usize)> {
+    let (first, frequency) = rarest_tested(run, None)?;
+    let (second, rest) = rarest_tested(run, Some(first)).unwrap_or((first, NO_SECOND));
+    let is_alone = run.iter().filter(|set| set.len() <= MOST_MEMBERS).count() == 1;
+    let share = if is_alone {
         0
-    } else if second == first {
-        NO_SECOND
     } else {
-        *frequencies.get(second)?
+        frequency.saturating_mul(rest)
     };
-    let share = frequencies.get(first)?.saturating_mul(rest);
-    if share <= MOST_PAIRS {
-        Some(rarest_neighbours(run, frequencies, share).unwrap_or((first, second)))
-    } else {
-        None
+    if share > MOST_PAIRS {
+        return None;
     }
+    Some(rarest_neighbours(run, share).unwrap_or((first, second)))
 }
 
 /// The indices of the rarest neighbours that can be tested by a comparison, if they are rarer than
 /// a pair with this share of offsets, per 10^8. They are preferred, since more is known of them.
-fn rarest_neighbours(run: &[ByteSet], frequencies: &[u64], share: u64) -> Option<(usize, usize)> {
+fn rarest_neighbours(run: &[ByteSet], share: u64) -> Option<(usize, usize)> {
     let mut best = None;
     let mut least = share.saturating_mul(3);
     for (i, sets) in run.windows(2).take(MOST_SETS - 1).enumerate() {
-        let independent = frequencies.get(i)?.saturating_mul(*frequencies.get(i + 1)?);
-        if ByteTest::of(&sets[0]).is_some() && ByteTest::of(&sets[1]).is_some() {
-            let next = share_of_neighbours(&sets[0], &sets[1], independent);
-            if next < least {
-                least = next;
+        if let (Some(first), Some(second)) = (ByteTest::of(&sets[0]), ByteTest::of(&sets[1])) {
+            let independent = frequency_of(&sets[0]).saturating_mul(frequency_of(&sets[1]));
+            let share = share_of_letters(first, second).unwrap_or(independent);
+            if share < least {
+                least = share;
                 best = Some((i, i + 1));
             }
         }
@@ -228,46 +194,31 @@ fn rarest_neighbours(run: &[ByteSet], frequencies: &[u64], share: u64) -> Option
     best
 }
 
-/// The rarest set that can be tested by a comparison, other than the one at `except`.
-fn rarest_tested(run: &[ByteSet], frequencies: &[u64], except: Option<usize>) -> Option<usize> {
+/// The rarest set that can be tested by a comparison, other than the one at `except`, and its
+/// frequency.
+fn rarest_tested(run: &[ByteSet], except: Option<usize>) -> Option<(usize, u64)> {
     let mut best = None;
     let mut least = u64::MAX;
     for (i, set) in run.iter().enumerate() {
-        let frequency = *frequencies.get(i)?;
-        if frequency < least && except != Some(i) && ByteTest::of(set).is_some() {
-            least = frequency;
-            best = Some(i);
+        if except != Some(i) && ByteTest::of(set).is_some() && frequency_of(set) < least {
+            least = frequency_of(set);
+            best = Some((i, least));
         }
     }
     best
 }
 
-/// The part of the run that is the best for this kind of search, given the frequencies of the sets.
-pub(crate) fn rarest_part(kind: Kind, run: &[ByteSet], frequencies: &[u64]) -> Option<Part> {
-    let trigram = rarest_trigram(run, frequencies);
+/// The part of the run that is the best for this kind of search.
+pub(crate) fn rarest_part(kind: Kind, run: &[ByteSet]) -> Option<Part> {
+    let trigram = rarest_trigram(run);
     match kind {
-        Kind::Trigrams => trigram,
+        Kind::Trigrams if run.len() < 3 => None,
+        Kind::Trigrams => Some(trigram),
         Kind::Pairs => {
-            let share = match trigram {
-                Some(trigram) => trigram.share,
-                None => share_of_few(frequencies),
-            };
-            let (first, _) = rarest_pair(run, frequencies)?;
-            let from = if run.len() > MOST_SETS {
-                first.saturating_sub(MOST_SETS / 2)
-            } else {
-                0
-            };
-            Some(Part { from, share })
+            let (first, _) = rarest_pair(run)?;
+            let is_long = run.len() > MOST_SETS;
+            let from = first.saturating_sub(MOST_SETS / 2) * usize::from(is_long);
+            Some(Part { from, ..trigram })
         }
     }
-}
-
-/// The share of a run of one or two sets, in units of 10^-12.
-fn share_of_few(frequencies: &[u64]) -> u64 {
-    let mut share = 1_000_000_000_000u64;
-    for frequency in frequencies {
-        share = share / 10_000 * (*frequency).min(10_000);
-    }
-    share
 }

@@ -67,11 +67,7 @@ impl WordList {
             offset = skip_strides(probe, text, stop.offset, steps);
         }
         let stop = self.first_in_rest(probe, text, offset, steps);
-        WordStop {
-            offset: stop.offset,
-            has_word: stop.has_word,
-            wasted,
-        }
+        WordStop { wasted, ..stop }
     }
 
     /// How many bytes the DFA scans in the time of a candidate that is no word.

@@ -10,8 +10,7 @@ ghost use Rattle.cs_prefilter.specs.CountsAtMost.{CountsAtMost};
 use crate::comparing::WordList;
 use crate::listing::Listed;
 use crate::masks::{Nibbles, TrigramMasks};
-use crate::pair::Pair;
-use crate::pairs::Pairs;
+use crate::pairs::{Pair, Pairs};
 use crate::scan::WordStop;
 use crate::steps::Steps;
 use crate::word::Word;
@@ -71,27 +70,18 @@ impl WordSearch {
     fn by_pairs(words: &[Word]) -> Option<WordSearch>
         ensures { IfSome result (λ search. AreFound (Finds search) words.now) }
     {
-        match words {
-            [word] => {
-                let first = Pair::of(word)?;
-                let second = first;
-                Some(if first.is_folded() {
-                    WordSearch::FoldedPair(Pairs { first, second })
-                } else {
-                    WordSearch::Pair(Pairs { first, second })
-                })
-            }
-            [word, other] => {
-                let first = Pair::of(word)?;
-                let second = Pair::of(other)?;
-                Some(if first.is_folded() || second.is_folded() {
-                    WordSearch::TwoFoldedPairs(Pairs { first, second })
-                } else {
-                    WordSearch::TwoPairs(Pairs { first, second })
-                })
-            }
-            _ => None,
-        }
+        let (first, second) = match words {
+            [word] => (Pair::of(word)?, Pair::of(word)?),
+            [word, other] => (Pair::of(word)?, Pair::of(other)?),
+            _ => return None,
+        };
+        let is_folded = first.is_folded() || second.is_folded();
+        Some(match (words.len(), is_folded) {
+            (1, false) => WordSearch::Pair(Pairs { first, second }),
+            (1, true) => WordSearch::FoldedPair(Pairs { first, second }),
+            (_, false) => WordSearch::TwoPairs(Pairs { first, second }),
+            (_, true) => WordSearch::TwoFoldedPairs(Pairs { first, second }),
+        })
     }
 
     /// Skips to the first of the words at or after `from`, or to the end of the text, unless it is

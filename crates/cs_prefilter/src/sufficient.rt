@@ -68,20 +68,12 @@ pub(crate) fn are_sufficient(root: &Node, words: &[Word]) -> bool
     ensures { IsTrue result → AreSufficient (tree_of root.now) words.now }
 {
     for word in words {
-        if !is_sufficient(root, word) {
-            return false;
+        match matched_to(root, word, 0) {
+            Some(_) if word.is_in_line() => {}
+            _ => return false,
         }
     }
     true
-}
-
-fn is_sufficient(root: &Node, word: &Word) -> bool
-    ensures { IsTrue result → IsSufficient (tree_of root.now) word.now }
-{
-    match matched_to(root, word, 0) {
-        Some(_) => word.is_in_line(),
-        None => false,
-    }
 }
 
 /// The index of the set of the word up to which the tree matches from the index `from` on. Of
@@ -120,10 +112,7 @@ fn matched_to_all(parts: &[Node], word: &Word, from: usize) -> Option<usize>
 {
     let mut at = from;
     for part in parts {
-        let Some(next) = matched_to(part, word, at) else {
-            return None;
-        };
-        at = next;
+        at = matched_to(part, word, at)?;
     }
     Some(at)
 }
@@ -150,6 +139,9 @@ fn is_within(set: &ByteSet, other: &ByteSet) -> bool
 {
     if set.len() > other.len() {
         return false;
+    }
+    if let Some(byte) = set.single() {
+        return other.contains(byte);
     }
     for byte in 0..=255u8 {
         if set.contains(byte) && !other.contains(byte) {

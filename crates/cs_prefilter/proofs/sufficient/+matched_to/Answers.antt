@@ -73,7 +73,7 @@ matched_to-returns-in-Alt t c =
 
 pub matched_to_all-loop-part-preserved : goal.matched_to_all-loop-part-preserved
 matched_to_all-loop-part-preserved t c =
-    let first = c.in-Some.ensures in
+    let first = c.in_ok-at.ensures in
     let next = trees_from c.args.parts.now c.loop-part.part-index c.part-item.result c.loop-part-test.true c.part-item.is in
     record {
       within = first.high;
@@ -82,7 +82,7 @@ matched_to_all-loop-part-preserved t c =
           to) (sym next) (record {
             low = omega (arith, first.low, f.low);
             high = f.high;
-            spans = λ line at is occurs. (at + c.in-Some.next, first.spans line at is occurs, f.spans line at is occurs);
+            spans = λ line at is occurs. (at + c.in_ok-at.at, first.spans line at is occurs, f.spans line at is occurs);
           }));
     }
 

@@ -1,6 +1,6 @@
 use Rattle.std.proofs.Common.{◌≡◌, ◌+◌, ℕ, List, get_or, ap, sym, ◌∙◌, not, eqb, arith, inl, inr}
 use Rattle.std.proofs.lemmas.Nat.{le_or_l, le_or_r}
-use Rattle.cs_prefilter.specs.declared.pair.Pair.{Pair}
+use Rattle.cs_prefilter.specs.declared.pairs.Pair.{Pair}
 use Rattle.cs_prefilter.specs.Pairs.{HasMasks, IsPairOf}
 use Rattle.cs_prefilter.proofs.PairLemmas.{pair_passes, flag_is_set}
 use Rattle.cs_prefilter.proofs.pairs.PairsProbe.lanes.Goals as goal

@@ -2,7 +2,7 @@ use Rattle.std.proofs.Common.{◌≡◌, ◌+◌, ℕ, get_or, ap, sym, ◌∙�
 use Rattle.cs_prefilter.specs.ByteTest.{used_mask}
 use Rattle.cs_prefilter.specs.Lanes.{full_if_equal}
 use Rattle.cs_prefilter.proofs.PairLemmas.{both_full}
-use Rattle.cs_prefilter.proofs.pair.Pair.lanes.Goals as goal
+use Rattle.cs_prefilter.proofs.pairs.Pair.lanes.Goals as goal
 
 pub returns : goal.returns
 returns g c k below =

@@ -44,7 +44,7 @@ rules_read s first second stem names i g e a b of_i of_g of_e =
     by_model (Some tree) of_i of_g of_e = cc
 
 -- the path of a folder
-path_is : (above : List (List ℕ)) → folder_path (with_slashes above) ≡ path_of above
+pub path_is : (above : List (List ℕ)) → folder_path (with_slashes above) ≡ path_of above
 path_is [] = refl
 path_is (name ∷ above) = not_empty (with_slashes above)
   where

@@ -45,6 +45,14 @@ keys_apart false false a b fine good same = (same, refl)
 keys_apart true false a b fine good same = absurd (true≢false (sym (slash_last a) ∙ ap has_slash same ∙ no_slash b good))
 keys_apart false true a b fine good same = absurd (true≢false (sym (slash_last b) ∙ ap has_slash (sym same) ∙ no_slash a fine))
 
+-- the name of a key that is one of a folder
+pub folder_key : (f : Bool) (a b : List ℕ) → is_element a ≡ true → key_of f a ≡ key_of true b → a ≡ b
+folder_key true a b fine same = append_cancel_right a b (slash ∷ []) same
+folder_key false a b fine same = absurd (true≢false (sym (slash_last b) ∙ ap has_slash (sym same) ∙ no_slash a fine))
+
+pub file_key : (name other : List ℕ) → is_element name ≡ true → name ≢ key_of true other
+file_key name other good same = true≢false (sym (slash_last other) ∙ ap has_slash (sym same) ∙ no_slash name good)
+
 -- ---- order
 
 abbrev pub IsBefore : List ℕ → List ℕ → Type 0

@@ -5,7 +5,7 @@ use Rattle.std.proofs.Math.Nat.{mul-le-mul_left, mul-le-mul_right}
 use Rattle.std.proofs.lemmas.List.{length-append, map-append}
 use Rattle.std.specs.List.{IsLastAndRest}
 use Rattle.cs_listing.specs.Globs.{GlobToken, matches_name, Element, folders, one, matches_path}
-use Rattle.cs_listing.specs.MatchWork.{tokens_work, name_work, largest, longest, path_work}
+use Rattle.cs_listing.specs.MatchWork.{tokens_work, name_work, largest, longest, pair_work, path_work}
 use Rattle.cs_listing.specs.Models.{tokens_of, element_of, glob_of, names}
 use Rattle.cs_listing.specs.declared.glob.Token.{Token}
 use Rattle.cs_listing.specs.declared.glob.Element.{Element as OwnElement}
@@ -66,14 +66,15 @@ both : (a b c d : ℕ) → a ≤ c → b ≤ d → a * b ≤ c * d
 both a b c d h k = let one = mul-le-mul_right b h in let two = mul-le-mul_left c k in omega (arith, one, two)
 
 -- the last element at the last name, and then the others
-both_paid : (n g own pair all : ℕ) → own ≤ all → pair ≤ all → own + (n + 1) * (g + 1) * (pair + 1) ≤ (n + 1 + 1) * (g + 1 + 1) * (all + 1)
-both_paid n g own pair all h k =
+both_paid : (n g own end pair all : ℕ) → own ≤ all → end ≤ all → pair ≤ all →
+    end + own + (n + 1) * (g + 1) * (pair + 1) ≤ (n + 1 + 1) * (g + 1 + 1) * (all + 1)
+both_paid n g own end pair all h e k =
     let more : pair + 1 ≤ all + 1 = omega (arith, k) in
     let rest = mul-le-mul_left ((n + 1) * (g + 1)) more in
-    omega (arith, rest, h)
+    omega (arith, rest, h, e)
 
 last_paid : (glob : List Element) (tokens : List GlobToken) (above : List (List ℕ)) (name : List ℕ) →
-    name_work tokens (length name) + path_work glob above ≤ path_work (with_last glob tokens) (above ++ name ∷ [])
+    tokens_work tokens + name_work tokens (length name) + path_work glob above ≤ path_work (with_last glob tokens) (above ++ name ∷ [])
 last_paid glob tokens above name =
     let large = largest_with glob tokens in
     let long = longest_with above name in
@@ -81,7 +82,9 @@ last_paid glob tokens above name =
     (omega (arith, long)) (omega (arith, large)) in
     let pair = both (longest above + 1) (largest glob + 1) (longest (above ++ name ∷ []) + 1) (largest (with_last glob tokens) + 1)
     (omega (arith, long)) (omega (arith, large)) in
-    let all = both_paid (length above) (length glob) _ _ _ own pair in
+    let end : tokens_work tokens ≤ pair_work (with_last glob tokens) (above ++ name ∷ []) =
+    omega (arith, own, mul-le-mul_right (tokens_work tokens + 1) (let one : 1 ≤ length name + 1 = omega arith in one)) in
+    let all = both_paid (length above) (length glob) _ _ _ _ own end pair in
     let n = length-append above (name ∷ []) in
     let g = length-append glob (one tokens ∷ []) in
     (rw (n, g) all)
@@ -109,6 +112,7 @@ last_first glob elements tokens path above name parts =
 
 pub last_first_paid : (glob elements : List OwnElement) (tokens : List Token) (path above : List (Bor (List ℕ))) (name : List ℕ) →
     IsSplit glob elements tokens path above name →
-    name_work (tokens_of tokens) (length name) + path_work (glob_of elements) (names above) ≤ path_work (glob_of glob) (names path)
+    tokens_work (tokens_of tokens) + name_work (tokens_of tokens) (length name) + path_work (glob_of elements) (names above)
+    ≤ path_work (glob_of glob) (names path)
 last_first_paid glob elements tokens path above name parts =
     (rw (parts.0, parts.1) (last_paid (glob_of elements) (tokens_of tokens) (names above) name))

@@ -25,10 +25,17 @@ pub mod VisitLemmas
 pub mod StepLemmas
 pub mod WeightLemmas
 pub mod ReportLemmas
+pub mod UnreadLemmas
+pub mod ReportAllLemmas
+pub mod StampLemmas
+pub mod NextLemmas
 pub mod BeginLemmas
 pub mod WholeWalkLemmas
 pub mod SettingLemmas
 pub mod StarLemmas
+pub mod EndLemmas
 pub mod LastElementLemmas
 pub mod RuleKeyLemmas
 mod RuleKeyExamples
+pub mod TypeLemmas
+mod UnreadExamples

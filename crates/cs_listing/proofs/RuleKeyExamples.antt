@@ -1,5 +1,5 @@
 -- Rows of the definitions of `RuleKeys`.
-use Rattle.std.proofs.Common.{◌≡◌, refl, List, [], ◌∷◌}
+use Rattle.std.proofs.Common.{◌≡◌, refl, [], ◌∷◌}
 use Rattle.std.specs.Prelude.{codes}
 use Rattle.cs_listing.specs.RuleKeys.{last_key, whole_key, tokens_key}
 use Rattle.cs_listing.specs.declared.glob.Token.TheVariants.{Byte, Any, Star}

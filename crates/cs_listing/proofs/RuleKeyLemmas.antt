@@ -3,13 +3,15 @@ use denote.Ref.{Bor}
 use Rattle.std.proofs.Common.{◌≡◌, ◌≢◌, refl, ℕ, zero, suc, ◌+◌, ◌-◌, ◌≤◌, ◌<◌, Bool, true, false, ◌||◌, cond, List, [], ◌∷◌, ◌++◌, map, length, get_or, take, drop, sym, ap, ◌∙◌, subst, ◌⊎◌, inl, inr, arith, eqb}
 use Rattle.std.specs.Prelude.{Option, Some, None, option_map, fold, unwrap_or, slice_get}
 use Rattle.std.proofs.lemmas.Bool.{eqb-true, eq-eqb, and_parts, false≢true, false_from_ne_true}
-use Rattle.std.proofs.lemmas.List.{length-append, length-drop, length-take, map-append, take-append-drop, take-take, take_more, take-map, drop-map, get_or-drop}
+use Rattle.std.proofs.lemmas.List.{length-append, length-drop, length-take, map-append, take-append-drop, length-map, take_all, take-take, take_more, take-map, drop-map, get_or-drop, get_or-take}
+use Rattle.std.proofs.Math.Nat.{eq-or-lt_of_le}
 use Rattle.std.specs.List.{IsLastAndRest}
-use Rattle.memchr.specs.Find.{IsLastByte, is_byte3}
+use Rattle.memchr.specs.Find.{is_byte3, places_from, places_between, places}
 use Rattle.cs_listing.specs.Globs.{matches_name, matches_path}
 use Rattle.cs_listing.specs.Models.{tokens_of, glob_of, rule_of, names}
 use Rattle.cs_listing.specs.Rules.{Rule as ListRule, applies, decide, or_else}
-use Rattle.cs_listing.specs.MatchWork.{rules_work}
+use Rattle.cs_listing.specs.MatchWork.{path_work, rules_work}
+use Rattle.cs_listing.specs.declared.rules.Decision.{Decision}
 use Rattle.cs_listing.specs.Layers.{last_name}
 use Rattle.cs_listing.specs.RuleKeys.{of_last, byte_key, last_key, next_hash, whole_key, literal, key_of_name, last_token_key, tokens_key, element_key, rule_key}
 use Rattle.cs_listing.specs.declared.glob.Token.{Token}
@@ -17,7 +19,7 @@ use Rattle.cs_listing.specs.declared.glob.Token.TheVariants.{Byte, Any, Class, S
 use Rattle.cs_listing.specs.declared.glob.Element.{Element}
 use Rattle.cs_listing.specs.declared.glob.Element.TheVariants.{Folders, One}
 use Rattle.cs_listing.specs.declared.rules.Rule.{Rule}
-use Rattle.cs_listing.proofs.RuleLemmas.{or_else_then, or_else_none}
+use Rattle.cs_listing.proofs.RuleLemmas.{or_else_then, or_else_none, decide_last, work_last}
 use Rattle.cs_listing.proofs.NameLemmas.{or_true, or_cases, and_right}
 
 -- ---- what the code computes
@@ -173,10 +175,71 @@ work_both : (first second : List ListRule) (path : List (List ℕ)) → rules_wo
 work_both [] second path = omega arith
 work_both (rule ∷ first) second path = omega (arith, work_both first second path)
 
+pub last_of_first : (rules : List Rule) (at : ℕ) (rule : Rule) → at < length rules → rule ≡ get_or rules at rule →
+    IsLastAndRest (take (at + 1) rules) rule (take at rules)
+last_of_first rules at rule less is =
+    let more = take_more rules at rule less ∙ ap (λ r. take at rules ++ r ∷ []) (sym is) in
+    (more, omega (arith, ap length more, length-append (take at rules) (rule ∷ [])))
+
+-- ---- the indices of bytes that pass a test
+
+next_index : (test : ℕ → Bool) (hay : List ℕ) (i n at : ℕ) (rest : List ℕ) → places_from test hay i n ≡ at ∷ rest →
+    (i ≤ at) × (at < i + n) × ((k : ℕ) → i ≤ k → k < at → test (get_or hay k 0) ≢ true)
+    × (rest ≡ places_from test hay (at + 1) (i + n - (at + 1)))
+unfolding places_from
+next_index test hay i zero at rest e = cc
+next_index test hay i (suc n) at rest e = by_test (next_index test hay (i + 1) n at rest) (test (get_or hay i 0)) refl e
+  where
+    later : List ℕ
+    later = places_from test hay (i + 1) n
+
+    by_test : (later ≡ at ∷ rest → (i + 1 ≤ at) × (at < (i + 1) + n) × ((k : ℕ) → i + 1 ≤ k → k < at → test (get_or hay k 0) ≢ true)
+        × (rest ≡ places_from test hay (at + 1) ((i + 1) + n - (at + 1)))) →
+        (b : Bool) → test (get_or hay i 0) ≡ b → cond b (i ∷ later) later ≡ at ∷ rest →
+        (i ≤ at) × (at < i + suc n) × ((k : ℕ) → i ≤ k → k < at → test (get_or hay k 0) ≢ true)
+        × (rest ≡ places_from test hay (at + 1) (i + suc n - (at + 1)))
+    by_test others true is e =
+        let first : i ≡ at = cc in
+        let tail : later ≡ rest = cc in
+        let many : n ≡ i + suc n - (at + 1) = omega (arith, first) in (
+          omega (arith, first),
+          omega (arith, first),
+          λ k low high. absurd (omega (arith, first, low, high)),
+          sym tail ∙ ap (λ j. places_from test hay (j + 1) n) first ∙ ap (places_from test hay (at + 1)) many,
+        )
+    by_test others false is e =
+        let more = others e in
+        let many : (i + 1) + n - (at + 1) ≡ i + suc n - (at + 1) = omega arith in (
+          omega (arith, more.0),
+          omega (arith, more.1),
+          λ k low high passes. elim (eq-or-lt_of_le low) [
+            | inl same ↦ false≢true (sym is ∙ ap (λ j. test (get_or hay j 0)) same ∙ passes)
+            | inr above ↦ more.2 k (omega (arith, above)) high passes
+          ],
+          more.3 ∙ ap (places_from test hay (at + 1)) many,
+        )
+
+no_index : (test : ℕ → Bool) (hay : List ℕ) (i n : ℕ) → places_from test hay i n ≡ [] →
+    (k : ℕ) → i ≤ k → k < i + n → test (get_or hay k 0) ≢ true
+unfolding places_from
+no_index test hay i zero e k low high passes = absurd (omega (arith, low, high))
+no_index test hay i (suc n) e k low high passes =
+    by_test (λ none above. no_index test hay (i + 1) n none k above (omega (arith, high)) passes) (test (get_or hay i 0)) refl e
+  where
+    later : List ℕ
+    later = places_from test hay (i + 1) n
+
+    by_test : (later ≡ [] → i + 1 ≤ k → ⊥) → (b : Bool) → test (get_or hay i 0) ≡ b → cond b (i ∷ later) later ≡ [] → ⊥
+    by_test others true is e = cc
+    by_test others false is e = elim (eq-or-lt_of_le low) [
+      | inl same ↦ false≢true (sym is ∙ ap (λ j. test (get_or hay j 0)) same ∙ passes)
+      | inr above ↦ others e (omega (arith, above))
+    ]
+
 -- ---- the rules that a search by keys passes by
 
 passed : (rules : List Rule) (path : List (List ℕ)) (is_folder : Bool) (from end : ℕ) → from ≤ end →
-    ((k : ℕ) → from ≤ k → k < length (take end (map rule_key rules)) → is_key_of (last_name path) (get_or (take end (map rule_key rules)) k 0) ≢ true) →
+    ((k : ℕ) → from ≤ k → k < end → is_key_of (last_name path) (get_or (map rule_key rules) k 0) ≢ true) →
     (decide (map rule_of (take end rules)) path is_folder ≡ decide (map rule_of (take from rules)) path is_folder)
     × (rules_work (map rule_of (take from rules)) path ≤ rules_work (map rule_of (take end rules)) path)
 passed rules path is_folder from end less none =
@@ -188,43 +251,90 @@ passed rules path is_folder from end less none =
     let later : map rule_key (drop from some) ≡ drop from keys =
     sym (drop-map rule_key from some) ∙ ap (drop from) (sym (take-map rule_key end rules)) in
     let among : NoneAmong path (drop from keys) = λ k shorter is.
-    none (from + k) (omega arith) (omega (arith, shorter, length-drop from keys))
-    (sym (ap (is_key_of (last_name path)) (get_or-drop from keys k 0)) ∙ is) in (
+    let low : from + k < end = omega (arith, shorter, length-drop from keys, length-take end (map rule_key rules)) in
+    none (from + k) (omega arith) low
+    (sym (ap (is_key_of (last_name path)) (get_or-drop from keys k 0 ∙ get_or-take end (map rule_key rules) (from + k) 0 low)) ∙ is) in (
       ap (λ rs. decide rs path is_folder) both ∙ decide_both (map rule_of (take from rules)) (map rule_of (drop from some)) path is_folder
           ∙ ap (λ o. or_else o (decide (map rule_of (take from rules)) path is_folder))
           (all_silent (drop from some) path is_folder (subst (NoneAmong path) (sym later) among)),
       omega (arith, ap (λ rs. rules_work rs path) both, work_both (map rule_of (take from rules)) (map rule_of (drop from some)) path),
     )
 
--- what the search finds
-abbrev pub FindsRule : List Rule → List (List ℕ) → Bool → ℕ → Option ℕ → Type 0
-FindsRule rules path is_folder end None = decide (map rule_of (take end rules)) path is_folder ≡ None
-FindsRule rules path is_folder end (Some at) =
-    (at < end) × (decide (map rule_of (take end rules)) path is_folder ≡ decide (map rule_of (take (at + 1) rules)) path is_folder)
-    × (rules_work (map rule_of (take (at + 1) rules)) path ≤ rules_work (map rule_of (take end rules)) path)
+-- the indices of the rules from one on whose key is one of those of the last name
+abbrev pub candidates_from : List Rule → List (List ℕ) → ℕ → List ℕ
+candidates_from rules path from =
+    places_between (is_key_of (last_name path)) (map rule_key rules) from (length (map rule_key rules))
 
-pub finds_rule : (rules : List Rule) (path : List (List ℕ)) (is_folder : Bool) (end : ℕ) (found : Option ℕ) →
-    IsLastByte (is_key_of (last_name path)) (take end (map rule_key rules)) found → FindsRule rules path is_folder end found
-finds_rule rules path is_folder end None nowhere = (passed rules path is_folder 0 end (omega arith) nowhere).0
-finds_rule rules path is_folder end (Some at) last =
-    let less : at < end = omega (arith, last.0.high, length-take end (map rule_key rules)) in
-    let rest = passed rules path is_folder (at + 1) end (omega (arith, less)) last.0.after in (less, rest.0, rest.1)
+-- The rules before an index have been asked, and these candidates are left.
+pub record HasAsked (rules : List Rule) (path : List (List ℕ)) (is_folder : Bool) (left : List ℕ) (said : Option Decision) (start now : ℕ) : Type 0 where
+  pub upto : ℕ
+  pub within : upto ≤ length rules
+  pub left_are : left ≡ candidates_from rules path upto
+  pub said_is : said ≡ decide (map rule_of (take upto rules)) path is_folder
+  pub rises : start ≤ now
+  pub work : now ≤ start + rules_work (map rule_of (take upto rules)) path
 
--- the same by the keys of the code
-pub finds_by : (rules : List Rule) (keys : List ℕ) (path : List (List ℕ)) (is_folder : Bool) (end : ℕ) (name : List ℕ) (last whole : ℕ) (found is : Option ℕ) →
-    keys ≡ map rule_key rules → name ≡ last_name path → last ≡ last_key name → whole ≡ whole_key name →
-    IsLastByte (is_byte3 0 last whole) (take end keys) found → found ≡ is → FindsRule rules path is_folder end is
-finds_by rules keys path is_folder end name last whole found is keyed named e f finds which =
-    subst (FindsRule rules path is_folder end) which (finds_rule rules path is_folder end found
-    (subst (λ ks. IsLastByte (is_key_of (last_name path)) (take end ks) found) keyed
-    (subst (λ k. IsLastByte (is_byte3 0 k (whole_key (last_name path))) (take end keys) found) (e ∙ ap last_key named)
-    (subst (λ k. IsLastByte (is_byte3 0 last k) (take end keys) found) (f ∙ ap whole_key named) finds))))
+pub asked_none : (rules : List Rule) (keys : List ℕ) (path : List (List ℕ)) (is_folder : Bool) (name : List ℕ) (last whole : ℕ) (left : List ℕ)
+    (start : ℕ) → keys ≡ map rule_key rules → name ≡ last_name path → last ≡ last_key name → whole ≡ whole_key name →
+    left ≡ places (is_byte3 0 last whole) keys → HasAsked rules path is_folder left None start start
+asked_none rules keys path is_folder name last whole left start keyed named e f is = record {
+  upto = 0;
+  within = omega arith;
+  left_are = is ∙ ap (places (is_byte3 0 last whole)) keyed
+      ∙ ap (λ k. places (is_byte3 0 k whole) (map rule_key rules)) (e ∙ ap last_key named)
+      ∙ ap (λ k. places (is_byte3 0 (last_key (last_name path)) k) (map rule_key rules)) (f ∙ ap whole_key named);
+  said_is = refl;
+  rises = omega arith;
+  work = omega arith;
+}
 
-pub last_of_first : (rules : List Rule) (at : ℕ) (rule : Rule) → at < length rules → rule ≡ get_or rules at rule →
-    IsLastAndRest (take (at + 1) rules) rule (take at rules)
-last_of_first rules at rule less is =
-    let more = take_more rules at rule less ∙ ap (λ r. take at rules ++ r ∷ []) (sym is) in
-    (more, omega (arith, ap length more, length-append (take at rules) (rule ∷ [])))
+module _ (rules : List Rule) (path : List (List ℕ)) (is_folder : Bool) (left : List ℕ) (said : Option Decision) (start now : ℕ)
+    (has : HasAsked rules path is_folder left said start now) where
+  same_length : length (map rule_key rules) ≡ length rules
+  same_length = length-map rules rule_key
+
+  module _ (at : ℕ) (rest : List ℕ) (first : left ≡ at ∷ rest) where
+    next_one : (has.upto ≤ at) × (at < has.upto + (length (map rule_key rules) - has.upto))
+        × ((k : ℕ) → has.upto ≤ k → k < at → is_key_of (last_name path) (get_or (map rule_key rules) k 0) ≢ true)
+        × (rest ≡ places_from (is_key_of (last_name path)) (map rule_key rules) (at + 1)
+        (has.upto + (length (map rule_key rules) - has.upto) - (at + 1)))
+    next_one = next_index (is_key_of (last_name path)) (map rule_key rules) has.upto (length (map rule_key rules) - has.upto) at rest
+        (sym has.left_are ∙ first)
+
+    pub asked_within : at < length rules
+    asked_within = omega (arith, next_one.1, same_length, has.within)
+
+    pub asked_more : (rule : Rule) (says : Option Decision) (then : ℕ) → rule ≡ get_or rules at rule →
+        says ≡ or_else (cond (applies (rule_of rule) path is_folder) (Some rule.decision) None) said →
+        (now ≤ then) × (then ≤ now + path_work (rule_of rule).glob path) → HasAsked rules path is_folder rest says start then
+    asked_more rule says then is answer counts =
+        let before = passed rules path is_folder has.upto at next_one.0 next_one.2 in
+        let last = last_of_first rules at rule asked_within is in
+        let work = work_last (take (at + 1) rules) (take at rules) rule path last in
+        let many : has.upto + (length (map rule_key rules) - has.upto) - (at + 1) ≡ length (map rule_key rules) - (at + 1) =
+        omega (arith, same_length, has.within) in
+        record {
+          upto = at + 1;
+          within = omega (arith, asked_within);
+          left_are = next_one.3 ∙ ap (places_from (is_key_of (last_name path)) (map rule_key rules) (at + 1)) many;
+          said_is = answer
+              ∙ ap (or_else (cond (applies (rule_of rule) path is_folder) (Some rule.decision) None)) (has.said_is ∙ sym before.0)
+              ∙ sym (decide_last (take (at + 1) rules) (take at rules) rule path is_folder last);
+          rises = omega (arith, has.rises, counts.0);
+          work = omega (arith, has.work, before.1, counts.1, work);
+        }
+
+  pub asked_all : left ≡ [] → (said ≡ decide (map rule_of rules) path is_folder)
+      × (start ≤ now) × (now ≤ start + rules_work (map rule_of rules) path)
+  asked_all none =
+      let rest = passed rules path is_folder has.upto (length rules) has.within
+      (λ k low high. no_index (is_key_of (last_name path)) (map rule_key rules) has.upto (length (map rule_key rules) - has.upto)
+      (sym has.left_are ∙ none) k low (omega (arith, high, same_length, has.within))) in
+      let all : take (length rules) rules ≡ rules = take_all (length rules) rules (omega arith) in (
+        has.said_is ∙ sym rest.0 ∙ ap (λ rs. decide (map rule_of rs) path is_folder) all,
+        omega (arith, has.rises),
+        omega (arith, has.work, rest.1, ap (λ rs. rules_work (map rule_of rs) path) all),
+      )
 
 -- ---- the last name
 

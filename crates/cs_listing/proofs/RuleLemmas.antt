@@ -1,5 +1,5 @@
 -- What the last rule says.
-use Rattle.std.proofs.Common.{◌≡◌, refl, ℕ, Bool, true, false, cond, List, [], ◌∷◌, ◌++◌, map, length, eqb, sym, ap, ◌∙◌, subst, ◌+◌, arith, append_assoc}
+use Rattle.std.proofs.Common.{◌≡◌, refl, ℕ, Bool, false, cond, List, [], ◌∷◌, ◌++◌, map, length, eqb, sym, ap, ◌∙◌, subst, ◌+◌, arith, append_assoc}
 use denote.Ref.{Bor}
 use Rattle.std.specs.Prelude.{Option, Some, None, nat_lt, filter_map}
 use Rattle.std.specs.Path.{slash}
@@ -35,26 +35,13 @@ decide_append (first ∷ rules) rule path is_folder =
     ap (λ o. or_else o (says first path is_folder)) (decide_append rules rule path is_folder)
     ∙ or_else_then (says rule path is_folder) (decide rules path is_folder) (says first path is_folder)
 
-decide_last : (rules rest : List OwnRule) (rule : OwnRule) (path : List (List ℕ)) (is_folder : Bool) → IsLastAndRest rules rule rest →
+-- the last rule decides if it applies, and else those before it
+pub decide_last : (rules rest : List OwnRule) (rule : OwnRule) (path : List (List ℕ)) (is_folder : Bool) → IsLastAndRest rules rule rest →
     decide (map rule_of rules) path is_folder ≡ or_else (says (rule_of rule) path is_folder) (decide (map rule_of rest) path is_folder)
 decide_last rules rest rule path is_folder last =
     ap (λ rs. decide (map rule_of rs) path is_folder) last.0
     ∙ ap (λ rs. decide rs path is_folder) (map-append rule_of rest (rule ∷ []))
     ∙ decide_append (map rule_of rest) (rule_of rule) path is_folder
-
--- the last rule applies, or those before it decide
-pub decides : (rules rest : List OwnRule) (rule : OwnRule) (path : List (List ℕ)) (is_folder : Bool) → IsLastAndRest rules rule rest →
-    applies (rule_of rule) path is_folder ≡ true → decide (map rule_of rules) path is_folder ≡ Some rule.decision
-decides rules rest rule path is_folder last is =
-    decide_last rules rest rule path is_folder last
-    ∙ ap (λ b. or_else (cond b (Some rule.decision) None) (decide (map rule_of rest) path is_folder)) is
-
-pub passes : (rules rest : List OwnRule) (rule : OwnRule) (path : List (List ℕ)) (is_folder : Bool) → IsLastAndRest rules rule rest →
-    applies (rule_of rule) path is_folder ≡ false →
-    decide (map rule_of rules) path is_folder ≡ decide (map rule_of rest) path is_folder
-passes rules rest rule path is_folder last is =
-    decide_last rules rest rule path is_folder last
-    ∙ ap (λ b. or_else (cond b (Some rule.decision) None) (decide (map rule_of rest) path is_folder)) is
 
 -- ---- the work of the rules
 

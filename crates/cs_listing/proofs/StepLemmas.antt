@@ -171,13 +171,13 @@ module _ (items : TreeItems) (layers : Layers) (frame next : Frame) (rest : List
   ascends : are_ascending (key ∷ keys_in next) ≡ true
   ascends = ap are_ascending (sym keys) ∙ is.1.ascend
 
-  own : AllByRecursion (IsKeyOf items (above_in layers)) (key ∷ keys_in next)
+  pub own : AllByRecursion (IsKeyOf items (above_in layers)) (key ∷ keys_in next)
   own = subst (AllByRecursion (IsKeyOf items (above_in layers))) keys is.1.keys
 
   name_is : name ≡ own.0.0
   name_is = named own.0.1 own.0.0 own.0.2 own.0.3
 
-  good : is_element name ≡ true
+  pub good : is_element name ≡ true
   good = ap is_element name_is ∙ own.0.3
 
   short : length (path_of (name ∷ above_in layers)) ≤ longest_path
@@ -193,7 +193,7 @@ module _ (items : TreeItems) (layers : Layers) (frame next : Frame) (rest : List
   longer e = omega (arith, ap length e, length-append name (slash ∷ []))
 
   module _ (whole : length name ≡ length key) where
-    file_here : (is_folder : Bool) → own.0.1 ≡ is_folder → (key ≡ name) × (is_file (items (path_of (name ∷ above_in layers))) ≡ true)
+    pub file_here : (is_folder : Bool) → own.0.1 ≡ is_folder → (key ≡ name) × (is_file (items (path_of (name ∷ above_in layers))) ≡ true)
     file_here true e = absurd (omega (arith, whole, longer (kind_of_key true e)))
     file_here false e = (kind_of_key false e, ap (λ n. is_file (items (path_of (n ∷ above_in layers)))) name_is ∙ own.0.5 e)
 
@@ -225,7 +225,7 @@ module _ (items : TreeItems) (layers : Layers) (frame next : Frame) (rest : List
     short_path = short
 
 -- the entries of a folder whose next entry is taken
-next_keys : (frame next : Frame) (entry : Entry) → frame.entries.items ≡ next.entries.items ++ entry ∷ [] →
+pub next_keys : (frame next : Frame) (entry : Entry) → frame.entries.items ≡ next.entries.items ++ entry ∷ [] →
     keys_in frame ≡ entry_key entry ∷ keys_in next
 next_keys frame next entry is = ap (λ es. map entry_key (reverse es)) is ∙ ap (map entry_key) (last_first next.entries.items entry)
 
@@ -253,6 +253,40 @@ takes_in s old new rest frame next entry name file frames later layers stem popp
       ),
     ))
 
+-- the folder that is the next entry is to be visited
+pub visit_of : (items : TreeItems) (old mid : Walk) (rest : List Frame) (frame next : Frame) (entry : Entry) (name : List ℕ)
+    (path : String Global) → old.frames.items ≡ rest ++ frame ∷ [] → mid.frames.items ≡ rest ++ next ∷ [] → mid.layers ≡ old.layers →
+    next.stem ≡ frame.stem → frame.entries.items ≡ next.entries.items ++ entry ∷ [] → IsNameOf (entry_key entry) name →
+    length name ≢ length (entry_key entry) → string_bytes path ≡ entry_path (string_bytes frame.stem) name → IsWalkIn items old →
+    IsVisit items name path mid × (keys_in frame ≡ key_of true name ∷ keys_in next)
+visit_of items old mid rest frame next entry name path frames later layers stem popped named longer text is =
+    let above = above_in old.layers in
+    let before : frames_in old ≡ frame ∷ reverse rest = ap reverse frames ∙ last_first rest frame in
+    let after : frames_in mid ≡ next ∷ reverse rest = ap reverse later ∙ last_first rest next in
+    let at = subst (IsOf items old.layers) before is in
+    let keys = next_keys frame next entry popped in
+    let around = around_next items old.layers frame next (reverse rest) (entry_key entry) name keys stem named at longer in
+    let place : above_in mid.layers ≡ above = ap above_in layers in
+    let where_is : string_bytes path ≡ with_slashes (name ∷ above_in mid.layers) =
+    text ∙ ap (λ t. entry_path t name) at.1.stem ∙ ap (λ a. with_slashes (name ∷ a)) (sym place) in (
+      (
+        λ none. not_none (sym after ∙ none),
+        ap folders_in layers ∙ at.0 ∙ sym (ap (λ l. folders_to (settings_of l).takes_ignored items (above_in l)) layers),
+        subst (λ a. AreAround items (name ∷ a) (frames_in mid)) (sym place) (subst (AreAround items (name ∷ above)) (sym after) around),
+        where_is,
+        omega (
+          arith,
+          ap length where_is,
+          ap (λ a. length (with_slashes (name ∷ a))) place,
+          short_path items old.layers frame next (reverse rest) (entry_key entry) name keys stem named at longer,
+        ),
+      ),
+      keys ∙ ap (λ k. k ∷ keys_in next) (key_is items old.layers frame next (reverse rest) (entry_key entry) name keys stem named at longer),
+    )
+  where
+    not_none : next ∷ reverse rest ≡ [] → ⊥
+    not_none e = cc
+
 pub visits_in : (s : Option Snapshot) (old mid new : Walk) (rest : List Frame) (frame next : Frame) (entry : Entry) (name : List ℕ)
     (path : String Global) → old.frames.items ≡ rest ++ frame ∷ [] → mid.frames.items ≡ rest ++ next ∷ [] → mid.layers ≡ old.layers →
     next.stem ≡ frame.stem → frame.entries.items ≡ next.entries.items ++ entry ∷ [] → IsNameOf (entry_key entry) name →
@@ -265,35 +299,15 @@ visits_in (Some tree) old mid new rest frame next entry name path frames later l
     let above = above_in old.layers in
     let before : frames_in old ≡ frame ∷ reverse rest = ap reverse frames ∙ last_first rest frame in
     let after : frames_in mid ≡ next ∷ reverse rest = ap reverse later ∙ last_first rest next in
-    let at = subst (IsOf items old.layers) before is in
-    let keys = next_keys frame next entry popped in
-    let key = key_is items old.layers frame next (reverse rest) (entry_key entry) name keys stem named at longer in
-    let around = around_next items old.layers frame next (reverse rest) (entry_key entry) name keys stem named at longer in
-    let place : above_in mid.layers ≡ above = ap above_in layers in
-    let where_is : string_bytes path ≡ with_slashes (name ∷ above_in mid.layers) =
-    text ∙ ap (λ t. entry_path t name) at.1.stem ∙ ap (λ a. with_slashes (name ∷ a)) (sym place) in
-    let visited_now = visit (
-      λ none. not_none (sym after ∙ none),
-      ap folders_in layers ∙ at.0 ∙ sym (ap (λ l. folders_to (settings_of l).takes_ignored items (above_in l)) layers),
-      subst (λ a. AreAround items (name ∷ a) (frames_in mid)) (sym place) (subst (AreAround items (name ∷ above)) (sym after) around),
-      where_is,
-      omega (
-        arith,
-        ap length where_is,
-        ap (λ a. length (with_slashes (name ∷ a))) place,
-        short_path items old.layers frame next (reverse rest) (entry_key entry) name keys stem named at longer,
-      ),
-    ) in (
+    let at = visit_of items old mid rest frame next entry name path frames later layers stem popped named longer text is in
+    let visited_now = visit at.0 in (
       visited_now.0,
       λ q. visited_now.1 q
           ∙ ap (λ l. is_to_come (settings_of l) items (above_in l) (with_key (key_of true name) (keys_of_all (frames_in mid))) q) layers
           ∙ ap (λ fs. is_to_come (settings_in old) items above (with_key (key_of true name) (keys_of_all fs)) q) after
-          ∙ ap (λ ks. is_to_come (settings_in old) items above (ks ∷ keys_of_all (reverse rest)) q) (ap (λ k. k ∷ keys_in next) (sym key) ∙ sym keys)
+          ∙ ap (λ ks. is_to_come (settings_in old) items above (ks ∷ keys_of_all (reverse rest)) q) (sym at.1)
           ∙ ap (λ fs. is_to_come (settings_in old) items above (keys_of_all fs) q) (sym before),
     )
-  where
-    not_none : next ∷ reverse rest ≡ [] → ⊥
-    not_none e = cc
 
 pub same_settings : (old new : Layers) → KeepsChoices old new → settings_of new ≡ settings_of old
 same_settings old new keeps =

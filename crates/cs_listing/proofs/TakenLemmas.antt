@@ -16,9 +16,10 @@ use Rattle.cs_listing.specs.Models.{folders_in, names_in, settings_of}
 use Rattle.cs_listing.specs.Listing.{Settings, TreeItems, has_more, is_listed, is_reached, is_taken, leaves_out, folders_to, down}
 use Rattle.cs_listing.specs.FolderReads.{key_of, kind_of_item, kind_at, taken_as, out_by, keys_taken}
 use Rattle.cs_listing.specs.Entries.{AreKeysOf}
+use Rattle.cs_listing.specs.Unreadable.{is_folder}
 use Rattle.cs_listing.specs.Walk.{IsKeyOf, comes_by}
 use Rattle.cs_listing.specs.declared.layers.Layers.{Layers}
-use Rattle.cs_listing.proofs.KeyLemmas.{same_eq, apart_eq, keys_apart, key_is_none}
+use Rattle.cs_listing.proofs.KeyLemmas.{same_eq, apart_eq, keys_apart, key_is_none, folder_key}
 use Rattle.cs_listing.proofs.WalkLemmas.{AreAll, reverse_cons}
 
 -- ---- lists
@@ -157,6 +158,21 @@ kind_folder (cut bytes) name there = absurd (true≢false (sym there))
 kind_folder other name there = absurd (true≢false (sym there))
 kind_folder (bad fault) name there = absurd (true≢false (sym there))
 
+is_kind : (item : Item) → kind_is true (kind_of_item item) ≡ is_folder item
+is_kind (folder names unnamed) = refl
+is_kind (file bytes) = refl
+is_kind (cut bytes) = refl
+is_kind other = refl
+is_kind (bad fault) = refl
+
+moved : (there short kind kept : Bool) → (there && ((short && kind) && kept)) ≡ (((there && short) && kept) && kind)
+moved false short kind kept = refl
+moved true false kind kept = refl
+moved true true true true = refl
+moved true true true false = refl
+moved true true false true = refl
+moved true true false false = refl
+
 turned : (there short kind kept reached found : Bool) → (reached ≡ true → found ≡ true → kind ≡ true) →
     ((there && ((short && kind) && kept)) && (reached && found)) ≡ ((((there && short) && kept) && reached) && found)
 turned false short kind kept reached found is = refl
@@ -188,7 +204,7 @@ module _ (layers : Layers) (items : TreeItems) (above names : List (List ℕ))
   abbrev how : List ℕ → Option Bool
   how name = taken_as (out_by layers name) (kind_at items (path_of (name ∷ above)))
 
-  out_is : (is_folder : Bool) (name : List ℕ) → out_by layers name is_folder ≡ leaves_out (settings_of layers) items is_folder above name
+  pub out_is : (is_folder : Bool) (name : List ℕ) → out_by layers name is_folder ≡ leaves_out (settings_of layers) items is_folder above name
   out_is is_folder name =
       ap (λ folders. is_left_out (settings_of layers) is_folder folders (names_in layers ++ name ∷ [])) rules
       ∙ ap (λ path. is_left_out (settings_of layers) is_folder (folders_to (settings_of layers).takes_ignored items above) path)
@@ -260,3 +276,38 @@ module _ (layers : Layers) (items : TreeItems) (above names : List (List ℕ))
     taken_keys = all_from (IsKeyOf items above) keys (λ key there.
         let found = given_by (keyed how) names key (sym (same key) ∙ there) in
         taken_key key found.0 (how found.0) refl found.1 found.2)
+
+    -- the folders among them are those that a search opens
+    pub folder_taken : (name : List ℕ) → is_among keys (key_of true name)
+        ≡ (is_taken (settings_of layers) items true above name && is_folder (items (path_of (name ∷ above))))
+    folder_taken name = by_element (is_element name) refl
+      where
+        none_there : is_element name ≡ false → (one : List ℕ) → is_among names one ≡ true → (taken : Option Bool) → how one ≡ taken →
+            option_map (λ is_folder. key_of is_folder one) taken ≡ Some (key_of true name) → ⊥
+        none_there is one there None at gives = cc
+        none_there is one there (Some f) at gives =
+            let same : key_of f one ≡ key_of true name = cc in
+            true≢false (sym (subst (λ n. is_element n ≡ true)
+            (folder_key f one name (one_of is_element names one good there) same) (one_of is_element names one good there)) ∙ is)
+
+        by_element : (fine : Bool) → is_element name ≡ fine → is_among keys (key_of true name)
+            ≡ (is_taken (settings_of layers) items true above name && is_folder (items (path_of (name ∷ above))))
+        by_element true is =
+            same (key_of true name)
+            ∙ key_there how names true name good is
+            ∙ ap (λ b. is_among names name && b) (how_is true name)
+            ∙ moved (is_among names name) (nat_le (length (path_of (name ∷ above))) longest_path)
+            (kind_is true (kind_of_item (items (path_of (name ∷ above))))) (not (leaves_out (settings_of layers) items true above name))
+            ∙ ap (λ b. ((is_among names name && nat_le (length (path_of (name ∷ above))) longest_path)
+            && not (leaves_out (settings_of layers) items true above name)) && b) (is_kind (items (path_of (name ∷ above))))
+            ∙ ap (λ b. ((b && nat_le (length (path_of (name ∷ above))) longest_path)
+            && not (leaves_out (settings_of layers) items true above name)) && is_folder (items (path_of (name ∷ above))))
+            (ap (λ ns. is_among ns name) listed)
+        by_element false is =
+            false_from_ne_true _ (λ there.
+            let found = given_by (keyed how) names (key_of true name) (sym (same (key_of true name)) ∙ there) in
+            none_there is found.0 found.1 (how found.0) refl found.2)
+            ∙ sym (ap (λ b. ((b && nat_le (length (path_of (name ∷ above))) longest_path)
+            && not (leaves_out (settings_of layers) items true above name)) && is_folder (items (path_of (name ∷ above))))
+            (sym (ap (λ ns. is_among ns name) listed)
+            ∙ false_from_ne_true _ (λ there. true≢false (sym (one_of is_element names name good there) ∙ is))))

@@ -86,6 +86,31 @@ module _ (items : TreeItems) (layers : Layers) (above names : List (List ℕ)) (
       visits (settings_of layers) items outer name (keys_in frame) (keys_in next) are.0
       (subst (λ a. AreAll (settings_of layers) items a (keys_in frame)) is has_all) (keys_of_all frames) path
 
+-- a folder of the deepest one is entered
+pub entered_at : (items : TreeItems) (name : List ℕ) (stem : String Global) (names : List (List ℕ)) (old mid : Walk) →
+    Enters items (string_bytes stem) names old mid → all_names mid.layers ≡ all_names old.layers ++ name ∷ [] →
+    settings_in mid ≡ settings_in old → IsVisit items name stem old →
+    (above_in mid.layers ≡ name ∷ above_in old.layers)
+    × (folders_in mid.layers ≡ folders_to (settings_in mid).takes_ignored items (name ∷ above_in old.layers))
+    × (names ≡ names_listed (items (path_of (name ∷ above_in old.layers))))
+entered_at items name stem names old mid enters more settings visit =
+    let outer = above_in old.layers in
+    let ti = (settings_in old).takes_ignored in
+    let read = folder_is ti items (name ∷ outer) names (enters.0 ∙ ap (λ t. names_listed (items (folder_path t))) visit.3) in (
+      ap (λ (all : List (List ℕ)). reverse (drop 1 all)) more
+          ∙ above_more (all_names old.layers) name (some_names ti items old.layers visit.1),
+      enters.2 ∙ ap (λ (fs : List FolderRules). fs ++ folder_read ti items (string_bytes stem) names ∷ []) visit.1
+          ∙ ap (λ t. folders_to ti items outer ++ folder_read ti items t names ∷ []) visit.3
+          ∙ ap (λ f. folders_to ti items outer ++ f ∷ []) read.1
+          ∙ sym (ap (λ (s : Settings). folders_to s.takes_ignored items (name ∷ outer)) settings),
+      read.0,
+    )
+
+pub opens_frames : (frame : Frame) (old mid new : Walk) → mid.frames ≡ old.frames → new.frames.items ≡ mid.frames.items ++ frame ∷ [] →
+    frames_in new ≡ frame ∷ frames_in old
+opens_frames frame old mid new same opens =
+    ap reverse opens ∙ last_first mid.frames.items frame ∙ ap (λ fs. frame ∷ reverse fs) (ap (λ v. v.items) same)
+
 pub visited : (items : TreeItems) (name : List ℕ) (stem : String Global) (names : List (List ℕ)) (frame : Frame) (old mid new : Walk) →
     Enters items (string_bytes stem) names old mid → all_names mid.layers ≡ all_names old.layers ++ name ∷ [] →
     mid.frames ≡ old.frames → settings_in mid ≡ settings_in old →
@@ -94,26 +119,19 @@ pub visited : (items : TreeItems) (name : List ℕ) (stem : String Global) (name
     IsVisit items name stem old → Visits items name old new
 visited items name stem names frame old mid new enters more same settings opens at ascend keys layers visit =
     let outer = above_in old.layers in
-    let ti = (settings_in old).takes_ignored in
-    let place : above_in mid.layers ≡ name ∷ outer =
-    ap (λ (all : List (List ℕ)). reverse (drop 1 all)) more ∙ above_more (all_names old.layers) name (some_names ti items old.layers visit.1) in
-    let read = folder_is ti items (name ∷ outer) names (enters.0 ∙ ap (λ t. names_listed (items (folder_path t))) visit.3) in
-    let rules : folders_in mid.layers ≡ folders_to (settings_in mid).takes_ignored items (name ∷ outer) =
-    enters.2 ∙ ap (λ (fs : List FolderRules). fs ++ folder_read ti items (string_bytes stem) names ∷ []) visit.1
-    ∙ ap (λ t. folders_to ti items outer ++ folder_read ti items t names ∷ []) visit.3
-    ∙ ap (λ f. folders_to ti items outer ++ f ∷ []) read.1
-    ∙ sym (ap (λ (s : Settings). folders_to s.takes_ignored items (name ∷ outer)) settings) in
+    let entered = entered_at items name stem names old mid enters more settings visit in
+    let place = entered.0 in
+    let rules = entered.1 in
     let text = ap string_bytes at ∙ visit.3 in
     let taken = subst (λ t. AreKeysOf (keys_in frame) (keys_taken mid.layers items t names)) visit.3 keys in
-    let frames : frames_in new ≡ frame ∷ frames_in old =
-    ap reverse opens ∙ last_first mid.frames.items frame ∙ ap (λ fs. frame ∷ reverse fs) (ap (λ v. v.items) same) in (
+    let frames = opens_frames frame old mid new same opens in (
       subst (λ l. IsOf items l (frames_in new)) (sym layers) (subst (IsOf items mid.layers) (sym frames)
-          (is_of items mid.layers (name ∷ outer) names frame place rules text ascend taken read.0 enters.1 (frames_in old) visit.2)),
+          (is_of items mid.layers (name ∷ outer) names frame place rules text ascend taken entered.2 enters.1 (frames_in old) visit.2)),
       λ path.
           ap (λ l. is_to_come (settings_of l) items (above_in l) (keys_of_all (frames_in new)) path) layers
           ∙ ap (λ fs. is_to_come (settings_of mid.layers) items (above_in mid.layers) (keys_of_all fs) path) frames
           ∙ ap (λ a. is_to_come (settings_of mid.layers) items a (keys_in frame ∷ keys_of_all (frames_in old)) path) place
-          ∙ comes_alike items mid.layers (name ∷ outer) names frame place rules text ascend taken read.0 enters.1 name outer (frames_in old) refl
+          ∙ comes_alike items mid.layers (name ∷ outer) names frame place rules text ascend taken entered.2 enters.1 name outer (frames_in old) refl
           visit.0 visit.2 path
           ∙ ap (λ s. is_to_come s items outer (with_key (key_of true name) (keys_of_all (frames_in old))) path) settings,
     )

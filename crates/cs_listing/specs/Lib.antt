@@ -9,6 +9,7 @@ pub mod RuleFiles
 pub mod RuleFileReads
 pub mod Braces
 pub mod Choices
+pub mod Types
 pub mod Layers
 pub mod LayersWork
 pub mod PathNames
@@ -18,7 +19,10 @@ pub mod Models
 pub mod FolderReads
 pub mod Entries
 pub mod UserRules
+pub mod Unreadable
 pub mod Walk
+pub mod ReportsAll
+pub mod Stamps
 pub mod WholeWalks
 -- Definitions that only private contracts cite.
 pub mod Matching

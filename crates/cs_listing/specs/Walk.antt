@@ -198,14 +198,16 @@ abbrev pub StepReportsOnce : Walk → Walk → Step → Type 0
 StepReportsOnce old new (step.Done given) = ReportsOnce old new given
 StepReportsOnce old new step.More = KeepsReports old.reported new.reported
 
+abbrev pub WereReported : BTreeSet (String Global) → List Unread → Type 0
+WereReported reported unread = AllByRecursion (λ one. contains_text reported (string_bytes one.path) ≡ true) unread
+
 -- One of some paths is taken from the end. Those behind it were reported before, and are left out.
 abbrev pub TakesOne : BTreeSet (String Global) → List Unread → List Unread → Unread → Type 0
-TakesOne reported old new unread = (others : List Unread) × (old ≡ new ++ unread ∷ others)
-    × AllByRecursion (λ other. contains_text reported (string_bytes other.path) ≡ true) others
+TakesOne reported old new unread = (others : List Unread) × (old ≡ new ++ unread ∷ others) × WereReported reported others
 
--- the next one, if there is one that was not reported
+-- the next one, if there is one that was not reported; else all are taken
 abbrev pub TakesUnread : List Unread → List Unread → BTreeSet (String Global) → BTreeSet (String Global) → Option Unread → Type 0
-TakesUnread old new before after None = KeepsReports before after
+TakesUnread old new before after None = KeepsReports before after × (new ≡ []) × WereReported before old
 TakesUnread old new before after (Some unread) = TakesOne before old new unread × Reports before after (string_bytes unread.path)
 
 -- ---- termination

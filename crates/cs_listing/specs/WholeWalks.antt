@@ -1,19 +1,21 @@
 -- What a walk of a project gives from its beginning to its end. docs/PROMISES.md, "Rules".
-use Rattle.std.specs.Prelude.{ℕ, ◌≡◌, ◌≢◌, true, false, List, [], ◌∷◌, map, Some, None, string_bytes}
+use Rattle.std.specs.Prelude.{ℕ, ◌≡◌, ◌≢◌, ◌↔◌, true, false, List, [], ◌∷◌, map, Some, None, string_bytes}
 use Rattle.std.specs.List.{AllByRecursion}
-use Rattle.cs_tree.specs.Elements.{are_distinct}
+use Rattle.cs_tree.specs.Elements.{is_among, are_distinct}
 use Rattle.cs_tree.specs.NamesAscending.{are_ascending}
 use Rattle.cs_listing.specs.Listing.{Settings, TreeItems, is_found}
-use Rattle.cs_listing.specs.Walk.{settings_in, path_text, Begins, Gives, ReportsOnce}
+use Rattle.cs_listing.specs.Unreadable.{IsUnreadable}
+use Rattle.cs_listing.specs.Walk.{settings_in, path_text, Begins, Gives, HasReportedNone, ReportsOnce}
+use Rattle.cs_listing.specs.ReportsAll.{BeginsToReport, ReportsAll}
 use Rattle.cs_listing.specs.declared.walk.Found.{Found}
 use Rattle.cs_listing.specs.declared.walk.Found.TheVariants as found
 use Rattle.cs_listing.specs.declared.walk.Walk.{Walk}
 
 -- what calls of `next` give one after the other, until one gives nothing
 abbrev pub GivesToEnd : TreeItems → Walk → List Found → Type 0
-GivesToEnd items walk [] = (ended : Walk) × Gives items walk ended None
+GivesToEnd items walk [] = (ended : Walk) × Gives items walk ended None × ReportsAll items walk ended None
 GivesToEnd items walk (given ∷ others) = (later : Walk) × Gives items walk later (Some given)
-    × ReportsOnce walk later (Some given) × GivesToEnd items later others
+    × ReportsOnce walk later (Some given) × GivesToEnd items later others × ReportsAll items walk later (Some given)
 
 -- the paths of the files among these
 abbrev pub files_given : List Found → List (List ℕ)
@@ -43,3 +45,9 @@ WalksList = (items : TreeItems) (start : List (List ℕ)) (walk : Walk) (given :
 abbrev pub WalksReportOnce : Type 0
 WalksReportOnce = (items : TreeItems) (walk : Walk) (given : List Found) →
     GivesToEnd items walk given → are_distinct (paths_reported given) ≡ true
+
+-- A walk that has begun at a folder, and has reported nothing, gives the paths that a search of it cannot read, and no other ones.
+abbrev pub WalksReportAll : Type 0
+WalksReportAll = (items : TreeItems) (start : List (List ℕ)) (walk : Walk) (given : List Found) →
+    BeginsToReport items start walk → HasReportedNone walk → GivesToEnd items walk given →
+    (path : List ℕ) → (is_among (paths_reported given) path ≡ true) ↔ IsUnreadable (settings_in walk) items start path

@@ -2,6 +2,7 @@
 ghost use Rattle.std.specs.Prelude.{◌≡◌, ◌+◌, ◌∷◌, [], map, string_bytes, length, is_some, true, false, IfOk};
 ghost use Rattle.cs_prefilter.specs.CountsAtMost.{CountsAtMost};
 ghost use Rattle.cs_listing.specs.Choices.{Settings, plain_settings, AddsGlob, AddsType, choice_of as choice_of', after, relative_to as relative_to', glob_choice, type_choice};
+ghost use Rattle.cs_listing.specs.Types.{AddsGlobsOf, globs_among, file_types};
 ghost use Rattle.cs_listing.specs.Layers.{last_name as last_name'};
 ghost use Rattle.cs_listing.specs.MatchWork.{rules_work};
 ghost use Rattle.cs_listing.specs.Models.{names, rules_in, chosen_in};
@@ -81,8 +82,10 @@ impl Choices {
     /// Takes the files of a type, or leaves them out. The last glob of a type that applies counts.
     /// False if there is no such type.
     pub fn add_type(&mut self, name: &str, is_left_out: bool) -> Result<bool, AllocError>
-        ensures { IfOk result
+        ensures adds { IfOk result
             (λ is_type. AddsType is_type is_left_out (chosen_in self.old) (chosen_in self.new)) }
+        ensures globs { IfOk result (λ is_type. AddsGlobsOf (globs_among file_types name.now)
+            is_left_out is_type (chosen_in self.old) (chosen_in self.new)) }
     {
         let Some(globs) = globs_of(name) else {
             return Ok(false);

@@ -1,6 +1,7 @@
 // Reading a folder: what it lists, its rule files, and which of its entries are taken.
-ghost use Rattle.std.specs.Prelude.{◌≡◌, ◌<◌, ◌+◌, ◌∷◌, ◌++◌, [], true, false, reverse, map, length, option_map, string_bytes, IfOk, OnOk};
+ghost use Rattle.std.specs.Prelude.{◌≡◌, ◌<◌, ◌+◌, ◌∷◌, ◌++◌, [], true, false, reverse, map, length, option_map, is_some, if◌then◌else◌, ◌&&◌, codes, string_bytes, IfOk, IfSome, OnOk};
 ghost use Rattle.std.specs.Option.{option_to_list};
+ghost use Rattle.std.specs.List.{All, Contains};
 ghost use Rattle.cs_tree.specs.Elements.{are_elements};
 ghost use Rattle.cs_tree.specs.Folders.{names_listed};
 ghost use Rattle.cs_tree.specs.NamesAscending.{are_ascending};
@@ -10,7 +11,10 @@ ghost use Rattle.cs_listing.specs.Models.{names, names_in, rules_in, rules_if, f
 ghost use Rattle.cs_listing.specs.Layers.{is_left_out, last_name};
 ghost use Rattle.cs_listing.specs.GitFolders.{bytes_of_item, git_folder as git_folder', shared_folder as shared_folder'};
 ghost use Rattle.cs_listing.specs.Listing.{TreeItems, rules_of_item};
-ghost use Rattle.cs_listing.specs.FolderReads.{InTree, folder_path as folder_path', entry_path, rules_among, exclude_read, rule_files_read, folder_read, kind_at, taken_as, key_of, key_taken, keys_taken};
+ghost use Rattle.cs_listing.specs.FolderReads.{InTree, folder_path as folder_path', entry_path, rules_among, exclude_read, rule_files_read, folder_read, out_by, kind_at, taken_as, key_of, key_taken, keys_taken};
+ghost use Rattle.cs_listing.specs.Unreadable.{is_unlisted, unread_file, unread_among, unread_git, unread_exclude, unread_rules, unread_common, unseen, unseen_entry, unseen_entries};
+ghost use Rattle.cs_listing.specs.ReportsAll.{paths_noted, Notes, unlisted_path};
+ghost use Rattle.cs_listing.specs.Stamps.{InStamps, IsFileKey, IsStamped};
 ghost use Rattle.cs_listing.specs.Entries.{taken_folder, entry_key, entry_keys, left_out_by, AreKeysOf, IsNameOf};
 
 use crate::fault::{ListFault, Unread};
@@ -41,7 +45,9 @@ struct Taken {
 impl Entry {
     /// The name, without the slash.
     pub(crate) fn name(&self) -> &str
-        ensures { IsNameOf (entry_key self.now) result.now }
+        ensures name { IsNameOf (entry_key self.now) result.now }
+        ensures file { length result.now ≡ length (entry_key self.now) →
+            (result.now ≡ entry_key self.now) × IsFileKey (entry_key self.now) }
     {
         self.key.strip_suffix('/').unwrap_or(self.key.as_str())
     }
@@ -74,7 +80,8 @@ pub(crate) struct FolderReader {
 pub(crate) fn child_path(alloc: Global, stem: &str, name: &str) -> Result<String, AllocError>
     ensures { IfOk result (λ path. string_bytes path ≡ entry_path stem.now name.now) }
 {
-    let mut path = String::from_str(alloc, stem)?;
+    let mut path = String::with_capacity(alloc, stem.len() + 1 + name.len())?;
+    path.push_str(stem)?;
     path.push('/')?;
     path.push_str(name)?;
     Ok(path)
@@ -108,6 +115,7 @@ fn push_if_some(entries: &mut Vec<Entry>, entry: Option<Entry>) -> Result<(), Al
 fn order_entries(entries: &mut Vec<Entry>)
     ensures ascend { are_ascending (map entry_key (reverse entries.new.items)) ≡ true }
     ensures same { AreKeysOf (map entry_key (reverse entries.new.items)) (map entry_key entries.old.items) }
+    ensures members { All (Contains entries.old.items) entries.new.items }
 {
     entries.sort_unstable_by(|a, b| a.key.cmp(&b.key));
     entries.dedup_by(|a, b| a.key == b.key);
@@ -128,7 +136,9 @@ fn is_out(layers: &Layers<'_>, path: &[&[u8]], is_folder: bool, file_is_out: boo
 }
 
 impl FolderReader {
-    pub(crate) fn new(alloc: Global) -> FolderReader {
+    pub(crate) fn new(alloc: Global) -> FolderReader
+        ensures { paths_noted result ≡ [] }
+    {
         FolderReader {
             alloc,
             unread: Vec::new(alloc),
@@ -136,7 +146,9 @@ impl FolderReader {
     }
 
     /// Notes that a path could not be read.
-    pub(crate) fn note(&mut self, path: &str, fault: ListFault) -> Result<(), AllocError> {
+    pub(crate) fn note(&mut self, path: &str, fault: ListFault) -> Result<(), AllocError>
+        ensures { OnOk result (paths_noted self.new ≡ paths_noted self.old ++ path.now ∷ []) }
+    {
         let path = String::from_str(self.alloc, path)?;
         self.unread.push(Unread { path, fault })?;
         Ok(())
@@ -147,6 +159,8 @@ impl FolderReader {
         ensures names { IfOk result (λ listed. are_elements (map string_bytes listed.names.items) ≡ true) }
         ensures listed { IfOk result (λ listed. InTree (T.snapshot tree.old)
             (λ items. map string_bytes listed.names.items ≡ names_listed (items (folder_path' stem.now)))) }
+        ensures fault { IfOk result (λ listed. InTree (T.snapshot tree.old)
+            (λ items. is_some listed.fault ≡ is_unlisted (items (folder_path' stem.now)))) }
         ensures keeps { T.snapshot tree.new ≡ T.snapshot tree.old }
     {
         match tree.entries(self.alloc, folder_path(stem)) {
@@ -167,11 +181,10 @@ impl FolderReader {
     }
 
     /// Notes what of a folder could not be listed.
-    pub(crate) fn note_listed(
-        &mut self,
-        stem: &str,
-        listed: &FolderNames,
-    ) -> Result<(), AllocError> {
+    pub(crate) fn note_listed(&mut self, stem: &str, listed: &FolderNames) -> Result<(), AllocError>
+        ensures { OnOk result
+            (paths_noted self.new ≡ paths_noted self.old ++ unlisted_path stem.now listed.now) }
+    {
         if let Some(fault) = listed.fault {
             self.note(folder_path(stem), fault)?;
         }
@@ -190,6 +203,8 @@ impl FolderReader {
         ensures folder { IfOk result (λ folder. InTree (T.snapshot tree.old) (λ items.
             folder_of folder ≡ folder_read takes_ignored items stem.now (map string_bytes names.now))) }
         ensures name { IfOk result (λ folder. folder.name ≡ name) }
+        ensures unread { OnOk result (Notes (T.snapshot tree.old) self.old self.new
+            (λ items. unread_rules takes_ignored items stem.now (map string_bytes names.now))) }
         ensures keeps { T.snapshot tree.new ≡ T.snapshot tree.old }
     {
         if takes_ignored {
@@ -210,6 +225,8 @@ impl FolderReader {
         ensures rules { IfOk result (λ rules. InTree (T.snapshot tree.old)
             (λ items. folder_of rules ≡ rule_files_read items stem.now (map string_bytes names.now))) }
         ensures name { IfOk result (λ rules. rules.name ≡ name) }
+        ensures unread { OnOk result (Notes (T.snapshot tree.old) self.old self.new
+            (λ items. unread_rules false items stem.now (map string_bytes names.now))) }
         ensures keeps { T.snapshot tree.new ≡ T.snapshot tree.old }
     {
         let ignore = self.rules_among(tree, stem, names, ".ignore")?;
@@ -233,6 +250,8 @@ impl FolderReader {
     ) -> Result<Rules, AllocError>
         ensures rules { IfOk result (λ rules. InTree (T.snapshot tree.old)
             (λ items. rules_in rules ≡ rules_among items stem.now (map string_bytes names.now) name.now)) }
+        ensures unread { OnOk result (Notes (T.snapshot tree.old) self.old self.new
+            (λ items. unread_among items stem.now (map string_bytes names.now) name.now)) }
         ensures keeps { T.snapshot tree.new ≡ T.snapshot tree.old }
     {
         if is_listed(names, name) {
@@ -251,6 +270,8 @@ impl FolderReader {
     ) -> Result<Option<Rules>, AllocError>
         ensures rules { IfOk result (λ exclude. InTree (T.snapshot tree.old)
             (λ items. rules_if exclude ≡ exclude_read items stem.now (map string_bytes names.now))) }
+        ensures unread { OnOk result (Notes (T.snapshot tree.old) self.old self.new
+            (λ items. unread_exclude items stem.now (map string_bytes names.now))) }
         ensures keeps { T.snapshot tree.new ≡ T.snapshot tree.old }
     {
         if !is_listed(names, ".git") {
@@ -266,6 +287,8 @@ impl FolderReader {
     fn git_folder<T: Look>(&mut self, tree: &mut T, stem: &str) -> Result<String, AllocError>
         ensures folder { IfOk result (λ folder. InTree (T.snapshot tree.old)
             (λ items. string_bytes folder ≡ git_folder' items stem.now)) }
+        ensures unread { OnOk result (Notes (T.snapshot tree.old) self.old self.new
+            (λ items. unread_git items stem.now)) }
         ensures keeps { T.snapshot tree.new ≡ T.snapshot tree.old }
     {
         let path = child_path(self.alloc, stem, ".git")?;
@@ -281,6 +304,8 @@ impl FolderReader {
     fn shared_folder<T: Look>(&mut self, tree: &mut T, folder: String) -> Result<String, AllocError>
         ensures folder { IfOk result (λ shared. InTree (T.snapshot tree.old)
             (λ items. string_bytes shared ≡ shared_folder' items (string_bytes folder))) }
+        ensures unread { OnOk result (Notes (T.snapshot tree.old) self.old self.new
+            (λ items. unread_file items (entry_path (string_bytes folder) (codes "commondir")))) }
         ensures keeps { T.snapshot tree.new ≡ T.snapshot tree.old }
     {
         let path = child_path(self.alloc, folder.as_str(), "commondir")?;
@@ -300,6 +325,8 @@ impl FolderReader {
     ) -> Result<Rules, AllocError>
         ensures rules { IfOk result (λ rules. InTree (T.snapshot tree.old)
             (λ items. rules_in rules ≡ rules_of_item (items (entry_path stem.now name.now)))) }
+        ensures unread { OnOk result (Notes (T.snapshot tree.old) self.old self.new
+            (λ items. unread_file items (entry_path stem.now name.now))) }
         ensures keeps { T.snapshot tree.new ≡ T.snapshot tree.old }
     {
         let path = child_path(self.alloc, stem, name)?;
@@ -311,6 +338,8 @@ impl FolderReader {
     pub(crate) fn read<T: Look>(&mut self, tree: &mut T, path: &str) -> Result<Vec<u8>, AllocError>
         ensures bytes { IfOk result (λ bytes. InTree (T.snapshot tree.old)
             (λ items. bytes.items ≡ bytes_of_item (items path.now))) }
+        ensures unread { OnOk result (Notes (T.snapshot tree.old) self.old self.new
+            (λ items. unread_file items path.now)) }
         ensures keeps { T.snapshot tree.new ≡ T.snapshot tree.old }
     {
         let read = WholeFile::read(self.alloc, tree, path)?;
@@ -332,6 +361,11 @@ impl FolderReader {
             (λ items. AreKeysOf (entry_keys entries.items)
             (keys_taken place.now.layers.now items place.now.stem.now (map string_bytes names.now)))) }
         ensures ascend { IfOk result (λ entries. are_ascending (entry_keys entries.items) ≡ true) }
+        ensures stamps { IfOk result (λ entries. InStamps (T.snapshot tree.old) T.stamps
+            (λ stamps. All (IsStamped stamps place.now.stem.now) entries.items)) }
+        ensures unread { OnOk result (Notes (T.snapshot tree.old) self.old self.new
+            (λ items. unseen_entries (out_by place.now.layers.now) items place.now.stem.now
+            (map string_bytes names.now))) }
         ensures keeps { T.snapshot tree.new ≡ T.snapshot tree.old }
     {
         let mut path = place.layers.names(self.alloc)?;
@@ -356,7 +390,11 @@ impl FolderReader {
         requires path { names path.old.items ≡ names_in place.now.layers.now }
         ensures key { IfOk result (λ entry. InTree (T.snapshot tree.old) (λ items. option_map entry_key entry
             ≡ key_taken place.now.layers.now items place.now.stem.now name.now)) }
+        ensures stamp { IfOk result (λ entry. IfSome entry (λ entry. InStamps (T.snapshot tree.old) T.stamps
+            (λ stamps. IsStamped stamps place.now.stem.now entry))) }
         ensures path { OnOk result (names path.new.items ≡ names_in place.now.layers.now) }
+        ensures unread { OnOk result (Notes (T.snapshot tree.old) self.old self.new
+            (λ items. unseen_entry (out_by place.now.layers.now) items place.now.stem.now name.now)) }
         ensures keeps { T.snapshot tree.new ≡ T.snapshot tree.old }
     {
         path.push(name.as_bytes())?;
@@ -388,6 +426,11 @@ impl FolderReader {
         ensures taken { IfOk result (λ taken. InTree (T.snapshot tree.old)
             (λ items. option_map taken_folder taken
             ≡ taken_as (left_out_by layers.now path.now) (kind_at items at.now))) }
+        ensures stamp { IfOk result (λ taken. IfSome taken (λ taken. InStamps (T.snapshot tree.old) T.stamps
+            (λ stamps. taken.stamp ≡ stamps at.now))) }
+        ensures unread { OnOk result (Notes (T.snapshot tree.old) self.old self.new
+            (λ items. if left_out_by layers.now path.now false && left_out_by layers.now path.now true then []
+            else unseen items at.now)) }
         ensures keeps { T.snapshot tree.new ≡ T.snapshot tree.old }
     {
         let file_is_out = layers.is_left_out(path, false, &mut Steps::new());
@@ -415,6 +458,10 @@ impl FolderReader {
     fn look<T: Look>(&mut self, tree: &mut T, path: &str) -> Result<Option<Seen>, AllocError>
         ensures seen { IfOk result (λ seen. InTree (T.snapshot tree.old)
             (λ items. option_map kind_seen seen ≡ kind_at items path.now)) }
+        ensures stamp { IfOk result (λ seen. IfSome seen (λ seen. InStamps (T.snapshot tree.old) T.stamps
+            (λ stamps. seen.stamp ≡ stamps path.now))) }
+        ensures unread { OnOk result (Notes (T.snapshot tree.old) self.old self.new
+            (λ items. unseen items path.now)) }
         ensures keeps { T.snapshot tree.new ≡ T.snapshot tree.old }
     {
         if path.len() > LONGEST_PATH {

@@ -1,9 +1,9 @@
 // Globs: what each element of a path has to match. After a mismatch only the last `*`, or the last
 // `**`, takes more, so each token meets each byte at most once. A `*` before a literal byte takes
 // all bytes up to the next one that is that byte.
-ghost use Rattle.std.specs.Prelude.{◌≡◌, ◌+◌, ◌≤◌, ◌∷◌, length};
+ghost use Rattle.std.specs.Prelude.{◌≡◌, ◌+◌, ◌≤◌, ◌∷◌, false, length};
 ghost use Rattle.cs_prefilter.specs.CountsAtMost.{CountsAtMost};
-ghost use Rattle.cs_listing.specs.MatchWork.{token_work, name_work, pair_work, path_work};
+ghost use Rattle.cs_listing.specs.MatchWork.{token_work, tokens_work, name_work, pair_work, path_work};
 ghost use Rattle.cs_listing.specs.Globs.{is_in_ranges as is_in_ranges', accepts_byte, matches_name as matches_name', matches_path as matches_path', star, folders};
 ghost use Rattle.cs_listing.specs.Models.{token_of, tokens_of, glob_of, names};
 ghost use Rattle.cs_listing.specs.Matching.{NameStepSays, NameStepTakes, PathStepSays};
@@ -95,6 +95,40 @@ fn name_step<'t, 'n>(tokens: &'t [Token], name: &'n [u8], steps: &mut Steps) -> 
         Some((byte, rest)) if token.accepts(*byte) => NameStep::Byte(later, rest),
         _ => NameStep::Mismatch,
     }
+}
+
+/// Whether the tokens after the last star match the end of a name. If not, the tokens match no such
+/// name.
+fn ends_match(tokens: &[Token], name: &[u8], steps: &mut Steps) -> bool
+    ensures ends { result ≡ false → matches_name' (tokens_of tokens.now) name.now ≡ false }
+    ensures work { CountsAtMost (tokens_work (tokens_of tokens.now)) steps.old steps.new }
+{
+    let mut left = tokens;
+    let mut rest = name;
+    'tokens: while let Some((token, before)) = left.split_last() {
+        token.count(steps);
+        if let Token::Star = token {
+            return true;
+        }
+        let Some((byte, start)) = rest.split_last() else {
+            return false;
+        };
+        if !token.accepts(*byte) {
+            return false;
+        }
+        left = before;
+        rest = start;
+    }
+    rest.is_empty()
+}
+
+/// Whether the tokens match the whole name. Most names end otherwise, so the end is compared first.
+fn matches_last(tokens: &[Token], name: &[u8], steps: &mut Steps) -> bool
+    ensures matches { result ≡ matches_name' (tokens_of tokens.now) name.now }
+    ensures work { CountsAtMost (tokens_work (tokens_of tokens.now)
+        + name_work (tokens_of tokens.now) (length name.now)) steps.old steps.new }
+{
+    ends_match(tokens, name, steps) && matches_name(tokens, name, steps)
 }
 
 /// Whether the tokens match the whole name.
@@ -206,7 +240,7 @@ pub(crate) fn matches_glob(glob: &[Element], path: &[&[u8]], steps: &mut Steps) 
     if let Some((Element::One(tokens), elements)) = glob.split_last()
         && let Some((name, above)) = path.split_last()
     {
-        if !matches_name(tokens, name, steps) {
+        if !matches_last(tokens, name, steps) {
             return false;
         }
         return matches_path(elements, above, steps);

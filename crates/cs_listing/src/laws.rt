@@ -1,7 +1,11 @@
 // Laws of the definitions. These functions do nothing.
+ghost use Rattle.std.specs.Prelude.{◌≡◌, map};
 ghost use Rattle.cs_listing.specs.Listing.{ListsAsBelow};
+ghost use Rattle.cs_listing.specs.Types.{file_types};
 ghost use Rattle.cs_listing.specs.Walk.{GivesInOrder};
-ghost use Rattle.cs_listing.specs.WholeWalks.{WalksList, WalksReportOnce};
+ghost use Rattle.cs_listing.specs.WholeWalks.{WalksList, WalksReportOnce, WalksReportAll};
+
+use crate::types::TYPES;
 
 /// Below a folder that it enters, a search lists what a search of that folder lists.
 pub fn lists_as_below()
@@ -23,4 +27,14 @@ pub fn walks_list()
 /// A walk gives each path that could not be read once.
 pub fn walks_report_once()
     ensures { WalksReportOnce }
+{}
+
+/// A walk gives each path that a search of its folder cannot read, and no other one as such.
+pub fn walks_report_all()
+    ensures { WalksReportAll }
+{}
+
+/// The table of the types is the one of the definitions.
+pub fn types_are_listed()
+    ensures { map (λ row. (row.0.now, row.1.now)) TYPES ≡ file_types }
 {}

@@ -2,9 +2,11 @@
 //! `specs/Globs.antt`, `specs/Rules.antt` and `specs/Layers.antt` first: the rules of one file, and
 //! what the rule files of all folders along a path say together; then `specs/RuleFiles.antt`: how
 //! the bytes of a rule file are read. `specs/Listing.antt` says which files of a tree a search of a
-//! folder lists, `specs/Walk.antt` what the walk gives that finds them, call by call, and
-//! `specs/WholeWalks.antt` what it gives from its beginning to its end. `specs/UserRules.antt` says
-//! which rules a user has for all repositories.
+//! folder lists, and `specs/Unreadable.antt` which paths it cannot read; `specs/Walk.antt` and
+//! `specs/ReportsAll.antt` say what the walk gives that finds both, call by call, and
+//! `specs/WholeWalks.antt` what it gives from its beginning to its end, `specs/Stamps.antt` which
+//! stamps its files have. `specs/UserRules.antt` says which rules a user has for all repositories,
+//! `specs/Types.antt` which types of files there are.
 //!
 //! A *glob* is a list of elements, one for each name of a path, or `**` for any number of folders;
 //! an element is a list of tokens; the token `*` takes any bytes. A rule without a slash begins
@@ -13,10 +15,10 @@
 //! byte that may match the token after it, and only the last `**` of a path takes one name more.
 //! The invariant says why that is enough: what an earlier star could match, the last one can match
 //! too. Only rules are tried whose key, a byte, is one of three that the last name has
-//! (`specs/RuleKeys.antt`), and the last element of each comes first. A class that does not end
-//! matches nothing, and takes the rest of its rule, so that each byte is read a bounded number of
-//! times. A path is given by its names below the folder of the rules, so that a walk can pass a
-//! suffix of its stack of names.
+//! (`specs/RuleKeys.antt`), and the last element of each comes first, from its end up to its last
+//! star. A class that does not end matches nothing, and takes the rest of its rule, so that each
+//! byte is read a bounded number of times. A path is given by its names below the folder of the
+//! rules, so that a walk can pass a suffix of its stack of names.
 //!
 //! `Layers` is a stack of the folders from the topmost down to one that is walked, each with the
 //! rules of its `.ignore` and its `.gitignore`, and those of `info/exclude` where a repository
@@ -40,7 +42,9 @@
 //! what is not left out is looked at once, and the rest is sorted by names, with a slash after
 //! those of folders, which is byte order of whole paths. `specs/Walk.antt` says which files are to
 //! come by the frames, so the invariant needs no list of all files: each step keeps the set, or
-//! takes its first.
+//! takes its first. What cannot be read is noted by `FolderReader`, and each path is given once,
+//! before the next file; the paths that are noted, were given, or are below an entry that is to
+//! come stay the same.
 #![tactic(auto)]
 
 mod braces;

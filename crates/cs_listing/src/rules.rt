@@ -16,7 +16,7 @@ use crate::glob::{Element, Token, matches_glob};
 use crate::glob_parsing::parse_glob;
 use crate::rule_lines::{line_text, without_last, without_mark};
 use cs_prefilter::Steps;
-use memchr::memrchr3;
+use memchr::memchr3_iter;
 use std::alloc::{AllocError, Global};
 use std::marker::Model;
 
@@ -102,15 +102,16 @@ impl Rules {
         let name = path.last().copied().unwrap_or(&[]);
         let last = last_key(name);
         let whole = whole_key(name);
-        let mut end = self.rules.len();
-        'rules: while let Some(at) = memrchr3(ANY_KEY, last, whole, &self.keys[..end]) {
+        // From the first rule on: this search tests 32 keys at once also where candidates are near.
+        let mut said = None;
+        let mut candidates = memchr3_iter(ANY_KEY, last, whole, &self.keys);
+        'rules: while let Some(at) = candidates.next() {
             let rule = &self.rules[at];
             if rule.applies(path, is_folder, steps) {
-                return Some(rule.decision);
+                said = Some(rule.decision);
             }
-            end = at;
         }
-        None
+        said
     }
 }
 

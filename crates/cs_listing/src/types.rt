@@ -1,4 +1,7 @@
 // The types of files that a search may be limited to.
+ghost use Rattle.std.specs.Prelude.{◌≡◌};
+ghost use Rattle.cs_listing.specs.Reading.{lent};
+ghost use Rattle.cs_listing.specs.Types.{globs_among, file_types};
 
 /// The types in the order of their names, each with the globs of its files, which have spaces
 /// between them.
@@ -119,8 +122,10 @@ pub const TYPES: [(&str, &str); 86] = [
 ];
 
 /// The globs of a type, if it is one.
-pub(crate) fn globs_of(name: &str) -> Option<&'static str> {
-    'types: for (own, globs) in TYPES.iter() {
+pub(crate) fn globs_of(name: &str) -> Option<&'static str>
+    ensures { lent result ≡ globs_among file_types name.now }
+{
+    'types: for (own, globs) in &TYPES {
         if *own == name {
             return Some(*globs);
         }

@@ -7,6 +7,8 @@ ghost use Rattle.cs_listing.specs.Choices.{within_depth};
 ghost use Rattle.cs_listing.specs.Models.{chosen_in, folders_in, all_names};
 ghost use Rattle.cs_listing.specs.FolderReads.{InTree};
 ghost use Rattle.cs_listing.specs.Walk.{settings_in, IsWalkIn, Gives, Begins, StepGives, ComesNearer, StepComesNearer, HasReportedNone, ReportsOnce, StepReportsOnce, TakesUnread, IsVisit, Visits, OpensAtMostOne, Enters, Opens};
+ghost use Rattle.cs_listing.specs.ReportsAll.{BeginsToReport, ReportsAll, StepReportsAll, VisitsNoting, EntersNoting, OpensNoting};
+ghost use Rattle.cs_listing.specs.Stamps.{InStamps, AreStamped, KeepsStamped, GivesStamped, StepGivesStamped};
 
 use crate::choices::Choices;
 use crate::entries::{Entry, FolderNames, FolderReader, Place, child_path};
@@ -77,6 +79,10 @@ impl<'a> Walk<'a> {
         ensures settings { IfOk result (λ walk. settings_in walk
             ≡ within_depth (chosen_in choices.now) (length start.now)) }
         ensures reported { IfOk result (λ walk. HasReportedNone walk) }
+        ensures unread { IfOk result (λ walk. InTree (T.snapshot tree.old)
+            (λ items. BeginsToReport items (map string_bytes start.now) walk)) }
+        ensures stamps { IfOk result (λ walk. InStamps (T.snapshot tree.old) T.stamps
+            (λ stamps. AreStamped stamps walk)) }
         ensures keeps { T.snapshot tree.new ≡ T.snapshot tree.old }
     {
         let mut walk = Walk {
@@ -104,6 +110,10 @@ impl<'a> Walk<'a> {
         ensures nearer { IfOk result (λ found. ComesNearer self.old self.new found) }
         ensures once { IfOk result (λ found. ReportsOnce self.old self.new found) }
         ensures settings { OnOk result (settings_in self.new ≡ settings_in self.old) }
+        ensures all { IfOk result (λ found. InTree (T.snapshot tree.old)
+            (λ items. IsWalkIn items self.old → ReportsAll items self.old self.new found)) }
+        ensures stamps { IfOk result (λ found. InStamps (T.snapshot tree.old) T.stamps
+            (λ stamps. GivesStamped stamps self.old self.new found)) }
         ensures keeps { T.snapshot tree.new ≡ T.snapshot tree.old }
     {
         'steps: loop {
@@ -120,6 +130,10 @@ impl<'a> Walk<'a> {
         ensures settings { OnOk result (settings_in self.new ≡ settings_in self.old) }
         ensures nearer { IfOk result (λ step. StepComesNearer self.old self.new step) }
         ensures once { IfOk result (λ step. StepReportsOnce self.old self.new step) }
+        ensures all { IfOk result (λ step. InTree (T.snapshot tree.old)
+            (λ items. IsWalkIn items self.old → StepReportsAll items self.old self.new step)) }
+        ensures stamps { IfOk result (λ step. InStamps (T.snapshot tree.old) T.stamps
+            (λ stamps. StepGivesStamped stamps self.old self.new step)) }
         ensures keeps { T.snapshot tree.new ≡ T.snapshot tree.old }
     {
         let next = next_unread(self.alloc, &mut self.reader.unread, &mut self.reported)?;
@@ -151,6 +165,10 @@ impl<'a> Walk<'a> {
         ensures settings { OnOk result (settings_in self.new ≡ settings_in self.old) }
         ensures frames { OnOk result (OpensAtMostOne self.old self.new) }
         ensures reported { self.new.reported ≡ self.old.reported }
+        ensures unread { OnOk result (InTree (T.snapshot tree.old)
+            (λ items. IsVisit items name.now path self.old → VisitsNoting items name.now self.old self.new)) }
+        ensures stamps { OnOk result (InStamps (T.snapshot tree.old) T.stamps
+            (λ stamps. KeepsStamped stamps self.old self.new)) }
         ensures keeps { T.snapshot tree.new ≡ T.snapshot tree.old }
     {
         if self.frames.len() > LONGEST_PATH {
@@ -173,6 +191,8 @@ impl<'a> Walk<'a> {
         ensures frames { self.new.frames ≡ self.old.frames }
         ensures reported { self.new.reported ≡ self.old.reported }
         ensures settings { OnOk result (settings_in self.new ≡ settings_in self.old) }
+        ensures unread { IfOk result (λ listed. EntersNoting (T.snapshot tree.old) stem.now
+            (map string_bytes listed.names.items) listed self.old self.new) }
         ensures keeps { T.snapshot tree.new ≡ T.snapshot tree.old }
     {
         let listed = self.reader.list(tree, stem)?;
@@ -198,6 +218,10 @@ impl<'a> Walk<'a> {
             self.old self.new) }
         ensures layers { self.new.layers ≡ self.old.layers }
         ensures reported { self.new.reported ≡ self.old.reported }
+        ensures unread { OnOk result (OpensNoting (T.snapshot tree.old) (string_bytes stem)
+            (map string_bytes listed.now.names.items) listed.now self.old self.new) }
+        ensures stamps { OnOk result (InStamps (T.snapshot tree.old) T.stamps
+            (λ stamps. KeepsStamped stamps self.old self.new)) }
         ensures keeps { T.snapshot tree.new ≡ T.snapshot tree.old }
     {
         let text = stem.as_str();

@@ -7,8 +7,8 @@ use Rattle.cs_listing.specs.declared.rules.Decision.TheVariants.{Ignore, TakeBac
 use Rattle.cs_listing.proofs.choices.Choices.add_type.Goals as goal
 use Rattle.cs_listing.proofs.choices.Choices.add_type.Goals.{then-is_left_out, else-is_left_out}
 
-pub returns : goal.returns
-returns c =
+pub returns-clause-adds : goal.returns-clause-adds
+returns-clause-adds c =
     let decision : c.if-is_left_out.decision ≡ cond c.args.is_left_out TakeBack Ignore =
     elim c.if-is_left_out.branch [
       | then-is_left_out w ↦ w.decision-is ∙ sym (ap (λ b. cond b TakeBack Ignore) w.if-is_left_out.true)

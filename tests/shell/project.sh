@@ -90,6 +90,31 @@ prints 0 'sub/deep/h.c\0sub/g\0' '' "cs -l -0 ab sub"
 prints 1 'f\n' '' "cs -L zzz f"
 prints 1 '' '' "cs zzz"
 
+# ---- binary files: one that is met is left out, one that is named matches or not ----------------------------------------
+mkdir bin
+printf 'x\nab\n\0z\nab\n' > bin/b
+printf 'x\0\n' > bin/n
+as_rg ab bin
+as_rg -l ab bin
+as_rg -c ab bin/b
+as_rg -c ab bin/b f
+as_rg -c -v ab bin/b
+as_rg -l ab bin/b f
+as_rg -q ab bin/b
+as_rg -q zzz bin/b
+as_rg -a ab bin/b f
+as_rg ab bin/n
+as_rg -m0 ab bin/b
+prints 0 'bin/b: binary file matches\n' '' "cs ab bin/b"
+prints 0 'bin/b: binary file matches\nf:2:ab ab\nf:5:ab ab\n' '' "cs -n ab bin/b bin/n f"
+prints 0 'bin/b: binary file matches\n' '' "cs -v --vimgrep ab bin bin/b"
+prints 0 'ab\nab\nbin/b: binary file matches\n' '' "cs -h -o -m1 ab f bin/b"
+prints 0 'f-1-x\nf:2:ab ab\n--\nbin/b: binary file matches\n--\nsub/g:1:ab\n' '' "cs -n -B1 -m1 ab f bin/b sub/g"
+prints 0 'sub/g\nab\n\nbin/b: binary file matches\n\nsub/g\nab\n' '' "cs --heading ab sub/g bin/b sub/g"
+prints 0 'bin/n\n' '' "cs -L ab bin bin/b bin/n"
+prints 0 '1\n' '' "printf 'ab\\0' | cs ab - | grep -c -x -e '-: binary file matches'"
+rm -r bin
+
 # ---- which files --------------------------------------------------------------------------------------------------------
 prints 0 '.gitignore\n.hidden/i\na*b[c]\nbinary\nf\nkept.log\nname with space\nnew\nline\nsub/deep/h.c\nsub/g\n' '' "cs --files"
 prints 0 'sub/deep/h.c\0sub/g\0' '' "cs --files -0 sub"
@@ -118,6 +143,19 @@ prints 0 'ab ab\nab ab\n' '' "cs ab to_f"
 prints 0 'pipe:ab\nsub/g:ab\n' '' "{ echo ab > pipe & cs ab pipe sub/g; }"
 prints 2 'sub/g:ab\n' 'cs: missing: no such file\n' "cs ab missing sub/g"
 rm link to_f pipe
+# after a link, `..` leads to the folder of what the link leads to
+mkdir -p sub/x "$fresh/far/near"
+printf 'ab\n' > sub/x/k
+printf 'ab\n' > "$fresh/far/k"
+ln -s sub/deep link
+ln -s "$fresh/far/near" away
+as_rg ab link/../x
+as_rg ab link/../x/k away/../k
+as_rg -n ab sub/deep/../..//sub/x
+prints 0 'away/../k\n' '' "cs --files away/.."
+prints 0 'link/..//x/k:ab\n' '' "cs ab link/..//x/"
+prints 2 'sub/../f\n' 'cs: missing/../f: no such file\n' "cs --files missing/../f sub/../f"
+rm -r sub/x link away
 # Root may read protected files, unless it gives up that capability.
 powerless() { "$@"; }
 if [ "$(id -u)" -eq 0 ]; then

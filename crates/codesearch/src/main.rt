@@ -35,7 +35,7 @@ mod streams;
 use args::{program_path, read_args};
 use call::{Call, absolute_folder, project_args};
 use cs_args::Tool;
-use cs_fresh::{FreshFault, ProjectCall, SinkOutput, UserFolders, run_project};
+use cs_fresh::{FreshFault, NoKnowledge, ProjectCall, SinkOutput, UserFolders, run_project};
 use cs_tree::{IoFault, Sink, StdSink, write_all};
 use disk::{
     DiskIndexFile, SettingFolders, buffered_output, disk_world, is_output_piped, project_tree,
@@ -166,7 +166,7 @@ fn search_project<'a>(
     let mut tree = project_tree(rt)?;
     let mut out = SinkOutput::new(buffered_output(rt)?, terminal);
     let mut err = StdSink::new(rt.stderr());
-    let answer = run_project(&call, &mut tree, &mut out, &mut err);
+    let answer = run_project(&call, &mut tree, &mut NoKnowledge, &mut out, &mut err);
     let flushed = out.flush();
     if out.fault() == Some(IoFault::Failed) || flushed.is_err() {
         // A pipe whose reader has gone needs no line.

@@ -24,5 +24,5 @@ a_link_to_a_folder_is_entered = refl
 a_link_to_a_file_is_not : is_entered other (bad missing) ≡ false
 a_link_to_a_file_is_not = refl
 
-names_of_two_items : names_printed (codes "\n") ((codes "a/b", file (codes "x")) ∷ (codes "c", other) ∷ []) ≡ codes "a/b\nc\n"
+names_of_two_items : names_printed (codes "\n") ((codes "a/b", file (codes "x"), false) ∷ (codes "c", other, true) ∷ []) ≡ codes "a/b\nc\n"
 names_of_two_items = refl

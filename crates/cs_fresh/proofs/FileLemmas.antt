@@ -10,55 +10,58 @@ use Rattle.cs_tree.specs.TreeReaders.{open_model}
 use Rattle.cs_tree.specs.declared.fault.TreeFault.{TreeFault}
 use Rattle.cs_tree.specs.declared.fault.TreeFault.TheVariants.{Missing, Denied, Output, Failed, Memory}
 use Rattle.cs_listing.specs.FolderReads.{InTree}
+use Rattle.cs_project.specs.Printed.{PrintsItem}
+use Rattle.cs_project.specs.Project.{searched_as}
 use Rattle.cs_project.specs.Streams.{PrintsFile, is_whole}
+use Rattle.cs_project.specs.declared.binary.BinaryFiles.{BinaryFiles}
 use Rattle.cs_project.specs.declared.rows.Page.{Page}
 use Rattle.cs_project.specs.declared.stream.Streamed.{Streamed}
 use Rattle.cs_fresh.specs.Reports.{MayReport}
-use Rattle.cs_fresh.specs.Searched.{ShowsItems}
+use Rattle.cs_fresh.specs.Searched.{ShowsItems, binary_as}
 use Rattle.cs_fresh.specs.Sources.{ShowsSource}
 use Rattle.cs_fresh.specs.declared.file_search.FileSearch.{FileSearch}
 use Rattle.cs_fresh.proofs.TextLemmas.{shows_text, shows_wrong, shows_nothing}
 
-pub source_shown : (old new : FileSearch) (page : Page) (name : List ℕ) (model : Option SourceModel) (given later : List ℕ)
-    (streamed : Streamed) → PrintsFile old.search new.search page old.binary model given later streamed →
-    page.options.now ≡ old.options → page.name.now ≡ name → page.begun ≡ old.marked →
-    new.marked ≡ (old.marked || streamed.marked) → is_whole streamed.ended ≡ true → ShowsSource old new name model given later
-source_shown old new page name None given later streamed prints options named begun marks whole = tt
-source_shown old new page name (Some source) given later streamed prints options named begun marks whole =
-    shows_text old new page name source.bytes given later streamed.marked (file source.bytes) (λ o b f. refl) options named begun marks
-    (prints whole)
+pub source_shown : (old new : FileSearch) (page : Page) (name : List ℕ) (named : Bool) (binary : BinaryFiles) (model : Option SourceModel)
+    (given later : List ℕ) (streamed : Streamed) → PrintsFile old.search new.search page binary model given later streamed →
+    binary ≡ binary_as old.binary named → page.options.now ≡ old.options → page.name.now ≡ name → page.begun ≡ old.marked →
+    new.marked ≡ (old.marked || streamed.marked) → is_whole streamed.ended ≡ true → ShowsSource old new name named model given later
+source_shown old new page name named binaries None given later streamed prints chosen options at begun marks whole = tt
+source_shown old new page name named binaries (Some source) given later streamed prints chosen options at begun marks whole =
+    shows_text old new page name source.bytes given later streamed.marked (file source.bytes) named (λ o f b. refl) options at begun marks
+    (subst (λ b. PrintsItem old.search new.search page (searched_as b source.bytes) source.bytes given later streamed.marked) chosen (prints whole))
 
 -- what follows from what a success says
 pub on_ok : {A E P Q : Type 0} (result : Result A E) → (P → Q) → OnOk result P → OnOk result Q
 on_ok (Ok answer) f p = f p
 on_ok (Err fault) f p = tt
 
-pub source_wrong : (old new : FileSearch) (name : List ℕ) (model : Option SourceModel) (given later : List ℕ) →
-    new.reports.wrong ≡ true → ShowsSource old new name model given later
-source_wrong old new name None given later wrong = tt
-source_wrong old new name (Some source) given later wrong = shows_wrong old new ((name, file source.bytes) ∷ []) given later wrong
+pub source_wrong : (old new : FileSearch) (name : List ℕ) (named : Bool) (model : Option SourceModel) (given later : List ℕ) →
+    new.reports.wrong ≡ true → ShowsSource old new name named model given later
+source_wrong old new name named None given later wrong = tt
+source_wrong old new name named (Some source) given later wrong = shows_wrong old new ((name, file source.bytes, named) ∷ []) given later wrong
 
 -- what is said of the item at a path
-abbrev pub ShowsPath : FileSearch → FileSearch → List ℕ → Option Snapshot → List ℕ → List ℕ → List ℕ → Type 0
-ShowsPath old new name snapshot path given later =
-    InTree snapshot (λ items. ShowsItems old new ((name, items path) ∷ []) given later)
+abbrev pub ShowsPath : FileSearch → FileSearch → List ℕ → Bool → Option Snapshot → List ℕ → List ℕ → List ℕ → Type 0
+ShowsPath old new name named snapshot path given later =
+    InTree snapshot (λ items. ShowsItems old new ((name, items path, named) ∷ []) given later)
 
 -- a file that was opened
-item_opened : (item : Item) (model : Option SourceModel) (old new : FileSearch) (name given later : List ℕ) →
-    OpensFileAs (Ok tt) (opening_of item) model → ShowsSource old new name model given later →
-    ShowsItems old new ((name, item) ∷ []) given later
-item_opened (folder names unnamed) model old new name given later opens shows = absurd opens
-item_opened (file bytes) model old new name given later opens shows = subst (λ m. ShowsSource old new name m given later) opens shows
-item_opened (cut bytes) model old new name given later opens shows = subst (λ m. ShowsSource old new name m given later) opens shows
-item_opened other model old new name given later opens shows = absurd opens
-item_opened (bad fault) model old new name given later opens shows = absurd opens
+item_opened : (item : Item) (model : Option SourceModel) (old new : FileSearch) (name : List ℕ) (named : Bool) (given later : List ℕ) →
+    OpensFileAs (Ok tt) (opening_of item) model → ShowsSource old new name named model given later →
+    ShowsItems old new ((name, item, named) ∷ []) given later
+item_opened (folder names unnamed) model old new name named given later opens shows = absurd opens
+item_opened (file bytes) model old new name named given later opens shows = subst (λ m. ShowsSource old new name named m given later) opens shows
+item_opened (cut bytes) model old new name named given later opens shows = subst (λ m. ShowsSource old new name named m given later) opens shows
+item_opened other model old new name named given later opens shows = absurd opens
+item_opened (bad fault) model old new name named given later opens shows = absurd opens
 
-pub path_opened : (snapshot : Option Snapshot) (opened : Option SourceModel) (old new : FileSearch) (name path given later : List ℕ) →
-    OpensFile snapshot path (Ok tt) opened → ShowsSource old new name (open_model snapshot opened) given later →
-    ShowsPath old new name snapshot path given later
-path_opened None opened old new name path given later opens shows = tt
-path_opened (Some tree) opened old new name path given later opens shows =
-    item_opened (item_at tree path) opened old new name given later opens shows
+pub path_opened : (snapshot : Option Snapshot) (opened : Option SourceModel) (old new : FileSearch) (name : List ℕ) (named : Bool)
+    (path given later : List ℕ) → OpensFile snapshot path (Ok tt) opened →
+    ShowsSource old new name named (open_model snapshot opened) given later → ShowsPath old new name named snapshot path given later
+path_opened None opened old new name named path given later opens shows = tt
+path_opened (Some tree) opened old new name named path given later opens shows =
+    item_opened (item_at tree path) opened old new name named given later opens shows
 
 -- no item is the output
 abbrev is_output : {A : Type 0} → Result A TreeFault → Bool
@@ -79,31 +82,33 @@ no_output (bad denied) = refl
 no_output (bad failed) = refl
 
 -- a file that is gone prints nothing
-item_gone : (item : Item) (old new : FileSearch) (name given : List ℕ) → opening_of item ≡ Err Missing → new.marked ≡ old.marked →
-    ShowsItems old new ((name, item) ∷ []) given given
-item_gone (folder names unnamed) old new name given e same = shows_nothing old new name (folder names unnamed) given (λ o b f. refl) same
-item_gone (file bytes) old new name given e same = absurd (false≢true (sym (ap is_ok e)))
-item_gone (cut bytes) old new name given e same = absurd (false≢true (sym (ap is_ok e)))
-item_gone other old new name given e same = shows_nothing old new name other given (λ o b f. refl) same
-item_gone (bad fault) old new name given e same = shows_nothing old new name (bad fault) given (λ o b f. refl) same
+item_gone : (item : Item) (old new : FileSearch) (name : List ℕ) (named : Bool) (given : List ℕ) → opening_of item ≡ Err Missing →
+    new.marked ≡ old.marked → ShowsItems old new ((name, item, named) ∷ []) given given
+item_gone (folder names unnamed) old new name named given e same = shows_nothing old new name (folder names unnamed) named given (λ o f b. refl) same
+item_gone (file bytes) old new name named given e same = absurd (false≢true (sym (ap is_ok e)))
+item_gone (cut bytes) old new name named given e same = absurd (false≢true (sym (ap is_ok e)))
+item_gone other old new name named given e same = shows_nothing old new name other named given (λ o f b. refl) same
+item_gone (bad fault) old new name named given e same = shows_nothing old new name (bad fault) named given (λ o f b. refl) same
 
 -- a file that was reported
-pub path_reported : (snapshot : Option Snapshot) (old new : FileSearch) (name path given later : List ℕ) → new.reports.wrong ≡ true →
-    ShowsPath old new name snapshot path given later
-path_reported None old new name path given later wrong = tt
-path_reported (Some tree) old new name path given later wrong = shows_wrong old new ((name, item_at tree path) ∷ []) given later wrong
+pub path_reported : (snapshot : Option Snapshot) (old new : FileSearch) (name : List ℕ) (named : Bool) (path given later : List ℕ) →
+    new.reports.wrong ≡ true → ShowsPath old new name named snapshot path given later
+path_reported None old new name named path given later wrong = tt
+path_reported (Some tree) old new name named path given later wrong =
+    shows_wrong old new ((name, item_at tree path, named) ∷ []) given later wrong
 
 -- a file that was not opened
 pub path_refused : (snapshot : Option Snapshot) (fault : TreeFault) (opened : Option SourceModel) (old new : FileSearch)
-    (name path given : List ℕ) → OpensFile snapshot path (Err fault) opened →
-    MayReport fault old.reports.wrong new.reports.wrong → new.marked ≡ old.marked → ShowsPath old new name snapshot path given given
-path_refused None fault opened old new name path given opens reports same = tt
-path_refused (Some tree) Missing opened old new name path given opens reports same =
-    item_gone (item_at tree path) old new name given opens.0 same
-path_refused (Some tree) Output opened old new name path given opens reports same =
+    (name : List ℕ) (named : Bool) (path given : List ℕ) → OpensFile snapshot path (Err fault) opened →
+    MayReport fault old.reports.wrong new.reports.wrong → new.marked ≡ old.marked →
+    ShowsPath old new name named snapshot path given given
+path_refused None fault opened old new name named path given opens reports same = tt
+path_refused (Some tree) Missing opened old new name named path given opens reports same =
+    item_gone (item_at tree path) old new name named given opens.0 same
+path_refused (Some tree) Output opened old new name named path given opens reports same =
     absurd (false≢true (sym (no_output (item_at tree path)) ∙ ap is_output opens.0))
-path_refused (Some tree) Denied opened old new name path given opens reports same =
-    shows_wrong old new ((name, item_at tree path) ∷ []) given given reports
-path_refused (Some tree) Failed opened old new name path given opens reports same =
-    shows_wrong old new ((name, item_at tree path) ∷ []) given given reports
-path_refused (Some tree) Memory opened old new name path given opens reports same = absurd reports
+path_refused (Some tree) Denied opened old new name named path given opens reports same =
+    shows_wrong old new ((name, item_at tree path, named) ∷ []) given given reports
+path_refused (Some tree) Failed opened old new name named path given opens reports same =
+    shows_wrong old new ((name, item_at tree path, named) ∷ []) given given reports
+path_refused (Some tree) Memory opened old new name named path given opens reports same = absurd reports

@@ -2,10 +2,13 @@ mod SearchLemmas
 mod TextLemmas
 mod FileLemmas
 mod NameLemmas
+mod PathLemmas
 mod WalkedLemmas
 mod ListedLemmas
 mod ShownLemmas
 mod ScopeLemmas
+mod FoundLemmas
+mod KnowledgeLemmas
 mod ProjectLemmas
 mod Examples
 mod CallLemmas

@@ -1,5 +1,5 @@
 -- Names that are printed one after another.
-use Rattle.std.proofs.Common.{◌≡◌, ℕ, List, [], ◌∷◌, ◌++◌, Option, Some, None, refl, sym, ap, ◌∙◌, append_assoc, append-nil}
+use Rattle.std.proofs.Common.{◌≡◌, ℕ, true, false, List, [], ◌∷◌, ◌++◌, Option, Some, None, refl, sym, ap, ◌∙◌, append_assoc, append-nil}
 use Rattle.std.specs.Prelude.{string_bytes}
 use Rattle.std.proofs.lemmas.List.{flat_map_more}
 use Rattle.std.proofs.lemmas.Grind.{flat_map-append}
@@ -23,18 +23,18 @@ one_more end given middle later name named item is printed had = printed
 pub lists_file : (snapshot : Option Snapshot) (one : NamedPath) (end' end given middle later name : List ℕ) →
     end' ≡ end → name ≡ string_bytes one.name → later ≡ middle ++ (name ++ end') →
     InTree snapshot (λ items. (all : List NamedItem) → HasListed end given middle all →
-    HasListed end given later (all ++ (string_bytes one.name, items (string_bytes one.path)) ∷ []))
+    HasListed end given later (all ++ (string_bytes one.name, items (string_bytes one.path), false) ∷ []))
 lists_file None one end' end given middle later name same is printed = tt
 lists_file (Some tree) one end' end given middle later name same is printed = λ all had.
-    one_more end given middle later (string_bytes one.name) all (string_bytes one.name, item_at tree (string_bytes one.path)) refl
+    one_more end given middle later (string_bytes one.name) all (string_bytes one.name, item_at tree (string_bytes one.path), false) refl
     (printed ∙ ap (λ e. middle ++ (name ++ e)) same ∙ ap (λ n. middle ++ (n ++ end)) is) had
 
 -- one name
 pub lists_one : (snapshot : Option Snapshot) (word path end given later : List ℕ) → later ≡ given ++ (word ++ end) →
-    InTree snapshot (λ items. HasListed end given later ((word, items path) ∷ []))
+    InTree snapshot (λ items. HasListed end given later ((word, items path, true) ∷ []))
 lists_one None word path end given later printed = tt
 lists_one (Some tree) word path end given later printed =
-    one_more end given given later word [] (word, item_at tree path) refl printed (sym (append-nil given))
+    one_more end given given later word [] (word, item_at tree path, true) refl printed (sym (append-nil given))
 
 -- names after names
 pub lists_more : (end' end given middle later : List ℕ) (named more : List NamedItem) → end' ≡ end →

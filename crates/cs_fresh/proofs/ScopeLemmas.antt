@@ -1,17 +1,16 @@
 -- What words name, one after another.
 use denote.Ref.{Bor}
-use Rattle.std.proofs.Common.{◌≡◌, ℕ, ◌+◌, ◌<◌, length, get_or, take, true, false, List, [], ◌∷◌, ◌++◌, Option, Some, None, refl, sym, ap, subst, ◌∙◌, append_assoc, append-nil}
+use Rattle.std.proofs.Common.{◌≡◌, ◌==◌, ℕ, ◌+◌, ◌<◌, length, get_or, take, Bool, true, false, List, [], ◌∷◌, ◌++◌, Option, Some, None, refl, sym, ap, subst, ◌∙◌, append_assoc, append-nil, arith}
 use Rattle.std.specs.Path.{slash}
-use Rattle.std.proofs.lemmas.Bool.{false≢true}
+use Rattle.std.proofs.lemmas.Bool.{eqb-true, false≢true}
 use Rattle.std.proofs.lemmas.List.{get_or_default}
 use Rattle.cs_tree.proofs.NameLemmas.{mapped_more}
 use Rattle.cs_tree.specs.PathParts.{texts}
 use Rattle.cs_tree.specs.Snapshot.{Item, Snapshot, item_at, folder, file, cut, other, bad}
-use Rattle.cs_tree.specs.Clean.{clean_path}
 use Rattle.cs_listing.specs.Choices.{Settings}
 use Rattle.cs_listing.specs.FolderReads.{InTree}
 use Rattle.cs_listing.specs.Listing.{TreeItems}
-use Rattle.cs_fresh.specs.Scopes.{AreAllNamed, AreAt, AreFilesBelow, AreNamed, ForItems, is_entered, is_there, leads_to_folder, operand}
+use Rattle.cs_fresh.specs.Scopes.{AreAllNamed, AreAt, AreFilesBelow, AreNamed, ForItems, ForPath, is_entered, is_there, leads_to_folder, operand, path_in}
 use Rattle.cs_fresh.specs.Searched.{NamedItem}
 use Rattle.cs_fresh.specs.Walked.{IsPathOf}
 use Rattle.cs_fresh.specs.declared.places.PathKind.TheVariants as kind
@@ -55,24 +54,27 @@ named_more (Some tree) now settings here words word P Q R same has names step =
       step has.0 one.0 has.2 one.2,
     )
 
--- a word that names a folder
-pub folder_named : (snapshot now : Option Snapshot) (settings : Settings) (here word path : List ℕ) (P : List NamedItem → Type 0) →
-    now ≡ snapshot → InTree snapshot (λ items. IsPathOf items here word path kind.Folder) →
-    InTree now (λ items. ForItems (AreFilesBelow items settings path word) P) →
-    InTree snapshot (λ items. ForItems (AreNamed items settings here word) P)
-folder_named None now settings here word path P same is has = tt
-folder_named (Some tree) now settings here word path P same is has =
-    let items = item_at tree in
-    let files = subst (λ s. InTree s (λ items. ForItems (AreFilesBelow items settings path word) P)) same has in
-    let leads : leads_to_folder items (clean_path here (operand word)) ≡ true = subst (λ p. leads_to_folder items p ≡ true) is.1 is.2 in (
-      files.0,
-      (
-        is.0,
-        entered_is_there (items (clean_path here (operand word))) (items (clean_path here (operand word) ++ slash ∷ [])) leads,
-        subst (λ b. AreAt items settings b (clean_path here (operand word)) word files.0) (sym leads)
-            (subst (λ p. AreFilesBelow items settings p word files.0) is.1 files.1),
-      ),
-      files.2,
+-- no words
+pub if_none : (words : List (Bor (List ℕ))) (P : List (List ℕ) → Type 0) → (length words == 0) ≡ true → P [] → P (texts words)
+if_none [] P none has = has
+if_none (word ∷ words) P none has =
+    let e : length (word ∷ words) ≡ 0 = eqb-true (length (word ∷ words)) 0 none in absurd (omega (arith, e))
+
+-- some words
+pub if_some : (words : List (Bor (List ℕ))) (P Q : List (List ℕ) → Type 0) → (length words == 0) ≡ false →
+    ((word : List ℕ) (more : List (List ℕ)) → P (word ∷ more) → Q (word ∷ more)) → P (texts words) → Q (texts words)
+if_some [] P Q some f has = absurd (false≢true (sym some))
+if_some (word ∷ words) P Q some f has = f word.now (texts words) has
+
+-- the path of a word that names a folder
+pub for_folder : (items : TreeItems) (settings : Settings) (here word path : List ℕ) (P : Bool → List ℕ → Type 0) →
+    IsPathOf items here word path kind.Folder → P true path → ForPath items settings here word P
+for_folder items settings here word path P is has =
+    let at = path_in items here (operand word) in
+    let leads : leads_to_folder items at ≡ true = subst (λ p. leads_to_folder items p ≡ true) is.1 is.2 in (
+      is.0,
+      entered_is_there (items at) (items (at ++ slash ∷ [])) leads,
+      subst (λ b. P b at) (sym leads) (subst (P true) is.1 has),
     )
   where
     entered_is_there : (item entered : Item) → is_entered item entered ≡ true → is_there item ≡ true
@@ -82,22 +84,40 @@ folder_named (Some tree) now settings here word path P same is has =
     entered_is_there other entered e = refl
     entered_is_there (bad fault) entered e = absurd (false≢true e)
 
+-- the path of a word that names anything else
+pub for_file : (items : TreeItems) (settings : Settings) (here word path : List ℕ) (P : Bool → List ℕ → Type 0) →
+    IsPathOf items here word path kind.File → P false path → ForPath items settings here word P
+for_file items settings here word path P is has =
+    let at = path_in items here (operand word) in
+    let none : leads_to_folder items at ≡ false = subst (λ p. leads_to_folder items p ≡ false) is.1 is.2.1 in (
+      is.0,
+      subst (λ p. is_there (items p) ≡ true) is.1 is.2.0,
+      subst (λ b. P b at) (sym none) (subst (P false) is.1 has),
+    )
+
+-- a word that names a folder
+pub folder_named : (snapshot now : Option Snapshot) (settings : Settings) (here word path : List ℕ) (P : List NamedItem → Type 0) →
+    now ≡ snapshot → InTree snapshot (λ items. IsPathOf items here word path kind.Folder) →
+    InTree now (λ items. ForItems (AreFilesBelow items settings path word) P) →
+    InTree snapshot (λ items. ForItems (AreNamed items settings here word) P)
+folder_named None now settings here word path P same is has = tt
+folder_named (Some tree) now settings here word path P same is has =
+    let items = item_at tree in
+    let files = subst (λ s. InTree s (λ items. ForItems (AreFilesBelow items settings path word) P)) same has in (
+      files.0,
+      for_folder items settings here word path (λ leads p. AreAt items settings leads p word files.0) is files.1,
+      files.2,
+    )
+
 -- a word that names anything else
 pub file_named : (snapshot now : Option Snapshot) (settings : Settings) (here word path : List ℕ) (P : List NamedItem → Type 0) →
     now ≡ snapshot → InTree snapshot (λ items. IsPathOf items here word path kind.File) →
-    InTree now (λ items. P ((word, items path) ∷ [])) →
+    InTree now (λ items. P ((word, items path, true) ∷ [])) →
     InTree snapshot (λ items. ForItems (AreNamed items settings here word) P)
 file_named None now settings here word path P same is has = tt
 file_named (Some tree) now settings here word path P same is has =
-    let items = item_at tree in
-    let there : is_there (items (clean_path here (operand word))) ≡ true = subst (λ p. is_there (items p) ≡ true) is.1 is.2.0 in
-    let none : leads_to_folder items (clean_path here (operand word)) ≡ false = subst (λ p. leads_to_folder items p ≡ false) is.1 is.2.1 in (
-      (word, items path) ∷ [],
-      (
-        is.0,
-        there,
-        subst (λ b. AreAt items settings b (clean_path here (operand word)) word ((word, items path) ∷ [])) (sym none)
-            (ap (λ p. (word, items p) ∷ []) is.1),
-      ),
-      subst (λ s. InTree s (λ items. P ((word, items path) ∷ []))) same has,
+    let items = item_at tree in (
+      (word, items path, true) ∷ [],
+      for_file items settings here word path (λ leads p. AreAt items settings leads p word ((word, items path, true) ∷ [])) is refl,
+      subst (λ s. InTree s (λ items. P ((word, items path, true) ∷ []))) same has,
     )

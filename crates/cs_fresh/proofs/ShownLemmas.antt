@@ -35,14 +35,14 @@ shows_reported old now reports named given later stays shown = λ right running 
 pub shows_file : (snapshot : Option Snapshot) (one : NamedPath) (old now new : FileSearch) (reports : Reports)
     (given middle later name path : List ℕ) → KeepsForm old now → (reports.wrong ≡ false → now.reports.wrong ≡ false) →
     KeepsForm (with_reports now reports) new → name ≡ string_bytes one.name → path ≡ string_bytes one.path →
-    InTree snapshot (λ items. ShowsItems (with_reports now reports) new ((name, items path) ∷ []) middle later) →
+    InTree snapshot (λ items. ShowsItems (with_reports now reports) new ((name, items path, false) ∷ []) middle later) →
     InTree snapshot (λ items. (all : List NamedItem) → ShowsItems old now all given middle →
-    ShowsItems old new (all ++ (string_bytes one.name, items (string_bytes one.path)) ∷ []) given later)
+    ShowsItems old new (all ++ (string_bytes one.name, items (string_bytes one.path), false) ∷ []) given later)
 shows_file None one old now new reports given middle later name path kept stays keeps named at shows = tt
 shows_file (Some tree) one old now new reports given middle later name path kept stays keeps named at shows = λ all shown.
     let mid = with_reports now reports in
     let item = item_at tree in
-    shows_more old mid new all ((string_bytes one.name, item (string_bytes one.path)) ∷ []) given middle later
+    shows_more old mid new all ((string_bytes one.name, item (string_bytes one.path), false) ∷ []) given middle later
     (form_again old now mid kept (form_reported now reports stays)) keeps (shows_reported old now reports all given middle stays shown)
-    (subst (λ n. ShowsItems mid new ((n, item (string_bytes one.path)) ∷ []) middle later) named
-    (subst (λ p. ShowsItems mid new ((name, item p) ∷ []) middle later) at shows))
+    (subst (λ n. ShowsItems mid new ((n, item (string_bytes one.path), false) ∷ []) middle later) named
+    (subst (λ p. ShowsItems mid new ((name, item p, false) ∷ []) middle later) at shows))

@@ -1,15 +1,17 @@
 -- Texts that are searched one after another.
-use Rattle.std.proofs.Common.{◌≡◌, ℕ, Bool, true, false, not, ◌&&◌, ◌||◌, if◌then◌else◌, nat_lt, List, [], ◌∷◌, ◌++◌, refl, sym, ap, ◌∙◌, append_assoc, append-nil}
+use Rattle.std.proofs.Common.{◌≡◌, ℕ, Bool, true, false, ◌||◌, List, [], ◌∷◌, ◌++◌, refl, sym, ap, ◌∙◌, append_assoc, append-nil}
 use Rattle.std.proofs.lemmas.Bool.{false≢true}
 use Rattle.cs_project.specs.Findings.{Finding, IsFoundBy}
 use Rattle.cs_project.specs.Printed.{PrintsItem}
-use Rattle.cs_project.specs.Project.{ItemShown, nothing_shown, text_shown}
-use Rattle.cs_project.specs.Shown.{between, count_of, following, is_binary, text_groups}
+use Rattle.cs_project.specs.Project.{ItemShown, nothing_shown, searched_as, shown_as, text_shown}
+use Rattle.cs_project.specs.Shown.{between, following}
+use Rattle.cs_project.specs.declared.binary.BinaryFiles.{BinaryFiles}
+use Rattle.cs_project.specs.declared.binary.BinaryFiles.TheVariants.{WithoutMatch, Binary, Text}
 use Rattle.cs_project.specs.declared.form.ShowOptions.{ShowOptions}
 use Rattle.cs_project.specs.declared.rows.Page.{Page}
 use Rattle.cs_project.specs.declared.search.LineSearch.{LineSearch}
 use Rattle.cs_tree.specs.Snapshot.{Item}
-use Rattle.cs_fresh.specs.Searched.{NamedItem, item_groups, shown_of, items_printed, are_marked, ShowsItems, KeepsForm}
+use Rattle.cs_fresh.specs.Searched.{NamedItem, binary_as, item_groups, shown_of, items_printed, are_marked, ShowsItems, KeepsForm}
 use Rattle.cs_fresh.specs.declared.file_search.FileSearch.{FileSearch}
 use Rattle.cs_fresh.proofs.SearchLemmas.{still_found}
 
@@ -67,65 +69,40 @@ pub shows_wrong : (old new : FileSearch) (texts : List NamedItem) (given later :
 shows_wrong old new texts given later wrong = λ right. absurd (false≢true (sym right ∙ wrong))
 
 -- a text that was read to its end
-item_printed : (old new : LineSearch) (page : Page) (binary left_out : Bool) (text given later : List ℕ) (marked : Bool) →
-    (is_binary text && not binary) ≡ left_out → PrintsItem old new page left_out text given later marked → new.stopped ≡ false →
-    (finding : Finding) → IsFoundBy finding old →
-    (later ≡ given ++ following (between page.options.now) page.begun
-    (text_shown page.options.now binary finding page.name.now text).groups)
-    × (marked ≡ (text_shown page.options.now binary finding page.name.now text).marked)
-item_printed old new page binary true text given later marked e item running finding found =
-    let options = page.options.now in
-    let shown : text_shown options binary finding page.name.now text ≡ nothing_shown =
-    ap (λ (b : Bool). if b then nothing_shown else record {
-      groups = text_groups options finding page.name.now text;
-      errors = [];
-      marked = nat_lt 0 (count_of options finding text);
-    }) e in (
-      item.0 ∙ sym (append-nil given) ∙ ap (λ (s : ItemShown). given ++ following (between options) page.begun s.groups) (sym shown),
-      item.1 ∙ ap (λ (s : ItemShown). s.marked) (sym shown),
-    )
-item_printed old new page binary false text given later marked e item running finding found =
-    let options = page.options.now in
-    let shown : text_shown options binary finding page.name.now text ≡ record {
-      groups = text_groups options finding page.name.now text;
-      errors = [];
-      marked = nat_lt 0 (count_of options finding text);
-    } =
-    ap (λ (b : Bool). if b then nothing_shown else record {
-      groups = text_groups options finding page.name.now text;
-      errors = [];
-      marked = nat_lt 0 (count_of options finding text);
-    }) e in (
-      item.0 running finding found ∙ ap (λ (s : ItemShown). given ++ following (between options) page.begun s.groups) (sym shown),
-      item.1 running finding found ∙ ap (λ (s : ItemShown). s.marked) (sym shown),
-    )
+item_printed : (old new : LineSearch) (page : Page) (kind : BinaryFiles) (text given later : List ℕ) (marked : Bool) →
+    PrintsItem old new page kind text given later marked → new.stopped ≡ false → (finding : Finding) → IsFoundBy finding old →
+    (later ≡ given ++ following (between page.options.now) page.begun (shown_as page.options.now finding page.name.now kind text).groups)
+    × (marked ≡ (shown_as page.options.now finding page.name.now kind text).marked)
+item_printed old new page WithoutMatch text given later marked item running finding found = (item.0 ∙ sym (append-nil given), item.1)
+item_printed old new page Binary text given later marked item running finding found = (item.0 running finding found, item.1 running finding found)
+item_printed old new page Text text given later marked item running finding found = (item.0 running finding found, item.1 running finding found)
 
-pub shows_text : (old new : FileSearch) (page : Page) (name text given later : List ℕ) (marked : Bool) (thing : Item) →
-    ((options : ShowOptions) (binary : Bool) (finding : Finding) →
-    item_groups options binary finding name thing ≡ text_shown options binary finding name text) →
+pub shows_text : (old new : FileSearch) (page : Page) (name text given later : List ℕ) (marked : Bool) (thing : Item) (named : Bool) →
+    ((options : ShowOptions) (finding : Finding) (binary : BinaryFiles) →
+    item_groups options finding binary name thing ≡ text_shown options finding name binary text) →
     page.options.now ≡ old.options → page.name.now ≡ name → page.begun ≡ old.marked → new.marked ≡ (old.marked || marked) →
-    PrintsItem old.search new.search page (is_binary text && not old.binary) text given later marked →
-    ShowsItems old new ((name, thing) ∷ []) given later
-shows_text old new page name text given later marked thing is options named begun marks item = λ right running finding found.
-    let p = item_printed old.search new.search page old.binary (is_binary text && not old.binary) text given later marked refl item running finding
-    found in
-    let shown : (o : ShowOptions) → List ℕ → ItemShown = λ o n. text_shown o old.binary finding n text in (
+    PrintsItem old.search new.search page (searched_as (binary_as old.binary named) text) text given later marked →
+    ShowsItems old new ((name, thing, named) ∷ []) given later
+shows_text old new page name text given later marked thing named is options at begun marks item = λ right running finding found.
+    let binary = binary_as old.binary named in
+    let p = item_printed old.search new.search page (searched_as binary text) text given later marked item running finding found in
+    let shown : (o : ShowOptions) → List ℕ → ItemShown = λ o n. text_shown o finding n binary text in (
       p.0 ∙ ap (λ b. given ++ following (between page.options.now) b (shown page.options.now page.name.now).groups) begun
           ∙ ap (λ o. given ++ following (between o) old.marked (shown o page.name.now).groups) options
-          ∙ ap (λ n. given ++ following (between old.options) old.marked (shown old.options n).groups) named
-          ∙ ap (λ (s : ItemShown). given ++ following (between old.options) old.marked s.groups) (sym (is old.options old.binary finding))
+          ∙ ap (λ n. given ++ following (between old.options) old.marked (shown old.options n).groups) at
+          ∙ ap (λ (s : ItemShown). given ++ following (between old.options) old.marked s.groups) (sym (is old.options finding binary))
           ∙ ap (λ r. given ++ r) (sym (append-nil (following (between old.options) old.marked
-          (item_groups old.options old.binary finding name thing).groups))),
-      marks ∙ ap (λ m. old.marked || m) (p.1 ∙ ap (λ o. (shown o page.name.now).marked) options ∙ ap (λ n. (shown old.options n).marked) named
-          ∙ ap (λ (s : ItemShown). s.marked) (sym (is old.options old.binary finding))),
+          (item_groups old.options finding binary name thing).groups))),
+      marks ∙ ap (λ m. old.marked || m) (p.1 ∙ ap (λ o. (shown o page.name.now).marked) options ∙ ap (λ n. (shown old.options n).marked) at
+          ∙ ap (λ (s : ItemShown). s.marked) (sym (is old.options finding binary))),
     )
 
 -- an item that prints nothing
-pub shows_nothing : (old new : FileSearch) (name : List ℕ) (item : Item) (given : List ℕ) →
-    ((options : ShowOptions) (binary : Bool) (finding : Finding) → item_groups options binary finding name item ≡ nothing_shown) →
-    new.marked ≡ old.marked → ShowsItems old new ((name, item) ∷ []) given given
-shows_nothing old new name item given is same = λ right running finding found.
-    let none = is old.options old.binary finding in (
+pub shows_nothing : (old new : FileSearch) (name : List ℕ) (item : Item) (named : Bool) (given : List ℕ) →
+    ((options : ShowOptions) (finding : Finding) (binary : BinaryFiles) → item_groups options finding binary name item ≡ nothing_shown) →
+    new.marked ≡ old.marked → ShowsItems old new ((name, item, named) ∷ []) given given
+shows_nothing old new name item named given is same = λ right running finding found.
+    let none = is old.options finding (binary_as old.binary named) in (
       sym (append-nil given) ∙ ap (λ (s : ItemShown). given ++ (following (between old.options) old.marked s.groups ++ [])) (sym none),
       same ∙ sym (or_false old.marked) ∙ ap (λ (s : ItemShown). old.marked || s.marked) (sym none),
     )

@@ -7,6 +7,7 @@ use Rattle.cs_listing.specs.FolderReads.{InTree}
 use Rattle.cs_listing.specs.Choices.{Settings, within_depth}
 use Rattle.cs_listing.specs.Listing.{TreeItems, is_found}
 use Rattle.cs_listing.specs.PathNames.{names_along}
+use Rattle.cs_listing.specs.Stamps.{AreStamped, GivesStamped, InStamps, Stamps}
 use Rattle.cs_listing.specs.Walk.{TakesFirst, GivesAll, GivesInOrder, Gives, IsWalkIn, is_left, path_text, walk_weight, unread_in}
 use Rattle.cs_listing.specs.declared.walk.File.{File}
 use Rattle.cs_listing.specs.declared.walk.Found.{Found}
@@ -15,7 +16,7 @@ use Rattle.cs_listing.specs.declared.walk.Walk.{Walk}
 use Rattle.cs_fresh.specs.Names.{name_below, name_of, prefix_of, with_slash}
 use Rattle.cs_fresh.specs.Scopes.{AreFilesBelow, ForItems}
 use Rattle.cs_fresh.specs.Searched.{NamedItem}
-use Rattle.cs_fresh.specs.Walked.{GivesFile, TakesAll, WalksFolder, named_item}
+use Rattle.cs_fresh.specs.Walked.{GivesFile, GivesStampedFile, TakesAll, WalksFolder, named_item}
 use Rattle.cs_fresh.specs.declared.walks.FolderWalk.{FolderWalk}
 use Rattle.cs_fresh.specs.declared.walks.NamedPath.{NamedPath}
 
@@ -97,6 +98,43 @@ file_given (Some tree) now first walk next one named same has gives at is = λ w
       ),
     )
 
+-- ---- the stamps of the files
+
+module _ (stamps : Snapshot → Stamps) where
+  -- the walk still gives the stamps of the tree
+  abbrev pub StillStamped : Option Snapshot → Walk → Walk → Type 0
+  StillStamped snapshot first walk = InStamps snapshot stamps (λ s. AreStamped s first → AreStamped s walk)
+
+  pub stamped_more : (snapshot now : Option Snapshot) (first walk next : Walk) (given : Option Found) → now ≡ snapshot →
+      StillStamped snapshot first walk → InStamps now stamps (λ s. GivesStamped s walk next given) → StillStamped snapshot first next
+  stamped_more None now first walk next given same had gives = tt
+  stamped_more (Some tree) now first walk next given same had gives = λ stamped.
+      ((subst (λ s. InStamps s stamps (λ s. GivesStamped s walk next given)) same gives) (had stamped)).0
+
+  pub stamp_given : (snapshot now : Option Snapshot) (first walk next : Walk) (one : File) → now ≡ snapshot →
+      StillStamped snapshot first walk → InStamps now stamps (λ s. GivesStamped s walk next (Some (found.File one))) →
+      InStamps snapshot stamps (λ s. AreStamped s first → AreStamped s next × (one.stamp ≡ s (string_bytes one.path)))
+  stamp_given None now first walk next one same had gives = tt
+  stamp_given (Some tree) now first walk next one same had gives = λ stamped.
+      (subst (λ s. InStamps s stamps (λ s. GivesStamped s walk next (Some (found.File one)))) same gives) (had stamped)
+
+  -- the stamps that are left after one more file, and its own
+  pub stamps_left : (snapshot now : Option Snapshot) (walk next : FolderWalk) (one : NamedPath) → now ≡ snapshot →
+      InStamps snapshot stamps (λ s. AreStamped s walk.walk) →
+      InStamps now stamps (λ s. AreStamped s walk.walk → GivesStampedFile s next (Some one)) →
+      InStamps snapshot stamps (λ s. AreStamped s next.walk)
+  stamps_left None now walk next one same had gives = tt
+  stamps_left (Some tree) now walk next one same had gives =
+      ((subst (λ s. InStamps s stamps (λ s. AreStamped s walk.walk → GivesStampedFile s next (Some one))) same gives) had).0
+
+  pub stamp_at : (snapshot now : Option Snapshot) (walk next : FolderWalk) (one : NamedPath) → now ≡ snapshot →
+      InStamps snapshot stamps (λ s. AreStamped s walk.walk) →
+      InStamps now stamps (λ s. AreStamped s walk.walk → GivesStampedFile s next (Some one)) →
+      InStamps snapshot stamps (λ s. one.stamp ≡ s (string_bytes one.path))
+  stamp_at None now walk next one same had gives = tt
+  stamp_at (Some tree) now walk next one same had gives =
+      ((subst (λ s. InStamps s stamps (λ s. AreStamped s walk.walk → GivesStampedFile s next (Some one))) same gives) had).1
+
 -- ---- the loop ends
 
 abbrev pub walk_measure : Walk → ℕ
@@ -114,7 +152,7 @@ HasTaken snapshot first walk P = InTree snapshot (λ items. IsWalkIn items first
 pub taken_more : (snapshot now : Option Snapshot) (first walk next : FolderWalk) (P Q : List NamedItem → Type 0) (one : NamedPath) →
     now ≡ snapshot → walk.form ≡ first.form → HasTaken snapshot first walk P → GivesIn now walk next (Some one) →
     InTree snapshot (λ items. (all : List NamedItem) → P all →
-    Q (all ++ (string_bytes one.name, items (string_bytes one.path)) ∷ [])) →
+    Q (all ++ (string_bytes one.name, items (string_bytes one.path), false) ∷ [])) →
     HasTaken snapshot first next Q
 taken_more None now first walk next P Q one same form has gives step = tt
 taken_more (Some tree) now first walk next P Q one same form has gives step = λ within.
@@ -125,8 +163,8 @@ taken_more (Some tree) now first walk next P Q one same form has gives step = λ
     let all = map (named_item items first.form) before.0 in
     let named : string_bytes one.name ≡ name_of first.form (path_text path) =
     given.1.2 ∙ ap (λ f. name_of f (string_bytes one.path)) form ∙ ap (λ p. name_of first.form p) given.1.1 in
-    let is : (string_bytes one.name, items (string_bytes one.path)) ≡ named_item items first.form path =
-    ap (λ n. (n, items (string_bytes one.path))) named ∙ ap (λ p. (name_of first.form (path_text path), items p)) given.1.1 in (
+    let is : (string_bytes one.name, items (string_bytes one.path), false) ≡ named_item items first.form path =
+    ap (λ n. (n, items (string_bytes one.path), false)) named ∙ ap (λ p. (name_of first.form (path_text path), items p, false)) given.1.1 in (
       before.0 ++ path ∷ [],
       given.0,
       takes_more (is_left first.walk items) (is_left walk.walk items) (is_left next.walk items) before.0 path before.2 given.1.3,
@@ -175,8 +213,8 @@ folder_taken (Some tree) now settings folder word walk P order same walks takes 
       (
         map path_text paths,
         (paths, refl, ordered.0, ordered.1, ordered.2),
-        map_twice (λ path. (name_below (with_slash folder) (prefix_of word) path, items path)) path_text (named_item items walk.form) paths
-            (λ path. ap (λ (n : List ℕ → List ℕ). (n (path_text path), items (path_text path))) named),
+        map_twice (λ path. (name_below (with_slash folder) (prefix_of word) path, items path, false)) path_text (named_item items walk.form) paths
+            (λ path. ap (λ (n : List ℕ → List ℕ). (n (path_text path), items (path_text path), false)) named),
       ),
       files.2,
     )

@@ -13,7 +13,8 @@ use Rattle.cs_project.specs.declared.settings.Task.{Task}
 use Rattle.cs_project.specs.declared.settings.Task.TheVariants as task
 use Rattle.cs_command.specs.Requests.{IsRequest}
 use Rattle.cs_command.specs.declared.request.Request.{Request}
-use Rattle.cs_fresh.specs.Projects.{FindsNone, ListsProject, SearchesProject}
+use Rattle.cs_fresh.specs.Knowledge.{by_names}
+use Rattle.cs_fresh.specs.Projects.{FindsInProject, ListsProject, SearchesProject}
 use Rattle.cs_fresh.specs.Scopes.{are_several}
 use Rattle.cs_fresh.specs.declared.file_search.FileSearch.{FileSearch}
 use Rattle.cs_fresh.specs.declared.scope.Scope.{Scope}
@@ -64,27 +65,29 @@ module _ (items : TreeItems) (call : ProjectCall) (request : Request) where
   ForSearch P = (scope : Scope) × (search : FileSearch) × IsScopeOf call request scope
       × IsSearchFor items call request scope search × P scope search
 
-  -- The search that is asked for was done. With -q only the status says what it found.
-  abbrev pub SearchesFor : Bool → List ℕ → List ℕ → ℕ → Type 0
-  SearchesFor false given later status =
-      status ≢ 2 → ForSearch (λ scope search. SearchesProject items scope search given later status)
-  SearchesFor true given later status =
-      (later ≡ given) × (status ≡ 1 → ForSearch (λ scope search. FindsNone items scope search status))
-
   -- the names that are asked for were printed
   abbrev pub ListsFor : List ℕ → List ℕ → ℕ → Type 0
   ListsFor given later status =
       (scope : Scope) × IsScopeOf call request scope × ListsProject items scope (name_end request) given later status
 
+-- `Knows` says of a search that what is known of the files holds for it.
+module _ (Knows : FileSearch → Type 0) (items : TreeItems) (call : ProjectCall) (request : Request) where
+  -- The search that is asked for was done. With -q only the status says what it found.
+  abbrev pub SearchesFor : Bool → List ℕ → List ℕ → ℕ → Type 0
+  SearchesFor false given later status = status ≢ 2 → ForSearch items call request
+      (λ scope search. Knows search → SearchesProject items scope search given later status)
+  SearchesFor true given later status = (later ≡ given) × (status ≢ 2 → ForSearch items call request
+      (λ scope search. Knows (by_names search) → FindsInProject items scope search status))
+
   abbrev pub AnswersTask : Task → List ℕ → List ℕ → ℕ → Type 0
   AnswersTask task.Search given later status = SearchesFor request.switches.silent given later status
-  AnswersTask task.Files given later status = ListsFor given later status
+  AnswersTask task.Files given later status = ListsFor items call request given later status
   AnswersTask _ given later status = status ≡ 0
 
   abbrev pub AnswersRequest : List ℕ → List ℕ → ℕ → Type 0
   AnswersRequest given later status = AnswersTask request.switches.task given later status
 
 -- Unless the status is 2, the arguments ask for something, and this was done.
-abbrev pub DoesProject : TreeItems → ProjectCall → List ℕ → List ℕ → ℕ → Type 0
-DoesProject items call given later status = status ≢ 2 → (base : Settings) × (request : Request) × HasBase items call base
-    × IsRequest (map string_bytes call.words.now) base request × AnswersRequest items call request given later status
+abbrev pub DoesProject : (FileSearch → Type 0) → TreeItems → ProjectCall → List ℕ → List ℕ → ℕ → Type 0
+DoesProject Knows items call given later status = status ≢ 2 → (base : Settings) × (request : Request) × HasBase items call base
+    × IsRequest (map string_bytes call.words.now) base request × AnswersRequest Knows items call request given later status

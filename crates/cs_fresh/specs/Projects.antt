@@ -3,9 +3,8 @@ use Rattle.std.specs.Prelude.{ℕ, ◌≡◌, ◌≢◌, false, List, ◌++◌}
 use Rattle.cs_listing.specs.Listing.{TreeItems}
 use Rattle.cs_project.specs.Findings.{Finding, IsFoundBy}
 use Rattle.cs_project.specs.Project.{status_by}
-use Rattle.cs_project.specs.declared.form.Mode.TheVariants.{Names}
-use Rattle.cs_fresh.specs.Scopes.{AreItemsOf, ForItems}
-use Rattle.cs_fresh.specs.Searched.{are_marked, items_printed, names_printed}
+use Rattle.cs_fresh.specs.Scopes.{AreItemsOf, IsItemOf, ForItems}
+use Rattle.cs_fresh.specs.Searched.{IsMarked, NamedItem, are_marked, items_printed, names_printed}
 use Rattle.cs_fresh.specs.declared.file_search.FileSearch.{FileSearch}
 use Rattle.cs_fresh.specs.declared.scope.Scope.{Scope}
 
@@ -22,8 +21,9 @@ abbrev pub ListsProject : TreeItems → Scope → List ℕ → List ℕ → List
 ListsProject items scope end given later status =
     status ≢ 2 → (status ≡ 0) × ForItems (AreItemsOf items scope) (λ named. later ≡ given ++ names_printed end named)
 
--- If the status is 1, no line of an item of the scope is marked.
-abbrev pub FindsNone : TreeItems → Scope → FileSearch → ℕ → Type 0
-FindsNone items scope search status =
-    status ≡ 1 → ForItems (AreItemsOf items scope) (λ named. (finding : Finding) → IsFoundBy finding search.search →
-    are_marked (record search.options { mode = Names }) search.binary finding search.marked named ≡ false)
+-- If the status is 0, a line of an item of the scope is marked; if it is 1, none is.
+abbrev pub FindsInProject : TreeItems → Scope → FileSearch → ℕ → Type 0
+FindsInProject items scope search status =
+    (status ≡ 0 → (one : NamedItem) × IsItemOf items scope one × IsMarked search one)
+    × (status ≡ 1 → ForItems (AreItemsOf items scope) (λ named. (finding : Finding) → IsFoundBy finding search.search →
+    are_marked search.options search.binary finding false named ≡ false))

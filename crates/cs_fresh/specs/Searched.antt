@@ -1,28 +1,35 @@
 -- What a search prints for items one after another.
-use Rattle.std.specs.Prelude.{ℕ, ◌≡◌, Bool, false, ◌&&◌, ◌||◌, List, [], ◌∷◌, ◌++◌}
+use Rattle.std.specs.Prelude.{ℕ, ◌≡◌, Bool, true, false, ◌&&◌, ◌||◌, List, [], ◌∷◌, ◌++◌}
 use Rattle.std.specs.List.{flat_map}
-use Rattle.cs_tree.specs.Snapshot.{Item, folder, file, cut, other, bad}
+use Rattle.cs_tree.specs.Snapshot.{Item, file, cut}
 use Rattle.cs_project.specs.Findings.{Finding, IsFoundBy, KeepsSearch}
 use Rattle.cs_project.specs.Project.{ItemShown, nothing_shown, text_shown}
 use Rattle.cs_project.specs.Shown.{between, following}
+use Rattle.cs_project.specs.declared.binary.BinaryFiles.{BinaryFiles}
+use Rattle.cs_project.specs.declared.binary.BinaryFiles.TheVariants.{WithoutMatch, Binary, Text}
 use Rattle.cs_project.specs.declared.form.ShowOptions.{ShowOptions}
 use Rattle.cs_fresh.specs.declared.file_search.FileSearch.{FileSearch}
 
--- An item, after the name that it is printed with.
+-- An item, after the name that it is printed with, and whether a word names it.
 abbrev pub NamedItem : Type 0
-NamedItem = List ℕ × Item
+NamedItem = List ℕ × Item × Bool
+
+-- what a binary file is searched as: with -a as text, and else only if a word names it
+abbrev pub binary_as : Bool → Bool → BinaryFiles
+binary_as true named = Text
+binary_as false true = Binary
+binary_as false false = WithoutMatch
+
+module _ (options : ShowOptions) (finding : Finding) where
+  -- Only a file prints anything.
+  abbrev pub item_groups : BinaryFiles → List ℕ → Item → ItemShown
+  item_groups binaries name (file text) = text_shown options finding name binaries text
+  item_groups binaries name (cut text) = text_shown options finding name binaries text
+  item_groups binaries name _ = nothing_shown
 
 module _ (options : ShowOptions) (binary : Bool) (finding : Finding) where
-  -- Only a file prints anything.
-  abbrev pub item_groups : List ℕ → Item → ItemShown
-  item_groups name (folder names unnamed) = nothing_shown
-  item_groups name (file text) = text_shown options binary finding name text
-  item_groups name (cut text) = text_shown options binary finding name text
-  item_groups name other = nothing_shown
-  item_groups name (bad fault) = nothing_shown
-
   abbrev pub shown_of : NamedItem → ItemShown
-  shown_of item = item_groups item.0 item.1
+  shown_of item = item_groups options finding (binary_as binary item.2) item.0 item.1
 
   -- What is printed for items one after another. A line of an earlier item is marked, or none.
   abbrev pub items_printed : Bool → List NamedItem → List ℕ
@@ -34,6 +41,11 @@ module _ (options : ShowOptions) (binary : Bool) (finding : Finding) where
   abbrev pub are_marked : Bool → List NamedItem → Bool
   are_marked marked [] = marked
   are_marked marked (item ∷ items) = are_marked (marked || (shown_of item).marked) items
+
+-- a line of the item is marked
+abbrev pub IsMarked : FileSearch → NamedItem → Type 0
+IsMarked search one = (finding : Finding) → IsFoundBy finding search.search →
+    (shown_of search.options search.binary finding one).marked ≡ true
 
 -- The items were searched: what is printed for them was printed.
 abbrev pub PrintsItems : FileSearch → FileSearch → List NamedItem → List ℕ → List ℕ → Type 0

@@ -1,15 +1,24 @@
 -- What the functions behind a search promise each other.
-use Rattle.std.specs.Prelude.{ℕ, ◌≡◌, ◌≢◌, false, List, [], ◌∷◌, Option, IfSome}
+use Rattle.std.specs.Prelude.{ℕ, ◌≡◌, ◌≢◌, Bool, true, false, List, [], ◌∷◌, Option, IfSome}
 use Rattle.cs_tree.specs.Snapshot.{file}
 use Rattle.cs_tree.specs.StreamModels.{SourceModel}
 use Rattle.cs_project.specs.Project.{status_by}
-use Rattle.cs_fresh.specs.Searched.{ShowsItems}
+use Rattle.cs_fresh.specs.Searched.{IsMarked, NamedItem, ShowsItems}
 use Rattle.cs_fresh.specs.declared.file_search.FileSearch.{FileSearch}
 
 -- The text of a source was searched.
-abbrev pub ShowsSource : FileSearch → FileSearch → List ℕ → Option SourceModel → List ℕ → List ℕ → Type 0
-ShowsSource old new name model given later =
-    IfSome model (λ source. ShowsItems old new ((name, file source.bytes) ∷ []) given later)
+abbrev pub ShowsSource : FileSearch → FileSearch → List ℕ → Bool → Option SourceModel → List ℕ → List ℕ → Type 0
+ShowsSource old new name named model given later =
+    IfSome model (λ source. ShowsItems old new ((name, file source.bytes, named) ∷ []) given later)
+
+-- If a line is marked, and none was before, it is one of such an item, even if an error was reported.
+abbrev pub FindsAmong : FileSearch → FileSearch → (NamedItem → Type 0) → Type 0
+FindsAmong old new IsOne = new.marked ≡ true → old.marked ≡ false → new.search.stopped ≡ false →
+    (one : NamedItem) × IsOne one × IsMarked old one
+
+-- the text of a source, after its name
+abbrev pub FindsInSource : FileSearch → FileSearch → List ℕ → Bool → Option SourceModel → Type 0
+FindsInSource old new name named model = IfSome model (λ source. FindsAmong old new (λ one. one ≡ (name, file source.bytes, named)))
 
 -- The status is 2, or there was no error, all matches were found, and it says whether a line is marked.
 abbrev pub IsStatusOf : FileSearch → ℕ → Type 0

@@ -1,5 +1,6 @@
 -- What the functions behind a search of folders promise each other.
-use Rattle.std.specs.Prelude.{ℕ, ◌≡◌, Bool, true, false, List, map, length, string_bytes, Option, Some, None}
+use Rattle.std.specs.Prelude.{ℕ, ◌≡◌, Bool, true, false, List, map, length, string_bytes, String, Option, Some, None}
+use Rattle.std.specs.declared.alloc.Global.{Global}
 use Rattle.cs_tree.specs.Snapshot.{Snapshot}
 use Rattle.cs_tree.specs.Clean.{clean_path}
 use Rattle.cs_tree.specs.Cleaning.{clean_fault}
@@ -7,9 +8,10 @@ use Rattle.cs_listing.specs.Choices.{Settings, within_depth}
 use Rattle.cs_listing.specs.FolderReads.{InTree}
 use Rattle.cs_listing.specs.Listing.{TreeItems}
 use Rattle.cs_listing.specs.PathNames.{names_along}
+use Rattle.cs_listing.specs.Stamps.{AreStamped, Stamps}
 use Rattle.cs_listing.specs.Walk.{Begins, GivesAll, settings_in, IsWalkIn, TakesFirst, is_left, path_text}
 use Rattle.cs_fresh.specs.Names.{name_of, prefix_of, with_slash}
-use Rattle.cs_fresh.specs.Scopes.{is_there, leads_to_folder, operand}
+use Rattle.cs_fresh.specs.Scopes.{is_there, leads_to_folder, may_clean, operand, path_in}
 use Rattle.cs_fresh.specs.Searched.{NamedItem}
 use Rattle.cs_fresh.specs.declared.names.NameForm.{NameForm}
 use Rattle.cs_fresh.specs.declared.places.PathKind.{PathKind}
@@ -28,14 +30,24 @@ abbrev pub GivesFile : TreeItems → FolderWalk → FolderWalk → Option NamedP
 GivesFile items old new file =
     IsWalkIn items new.walk × GivesNamed old.form (is_left old.walk items) (is_left new.walk items) file
 
+-- A file that is given has the stamp of its path, and so will the others.
+abbrev pub GivesStampedFile : Stamps → FolderWalk → Option NamedPath → Type 0
+GivesStampedFile stamps new None = AreStamped stamps new.walk
+GivesStampedFile stamps new (Some file) = AreStamped stamps new.walk × (file.stamp ≡ stamps (string_bytes file.path))
+
 -- the item at a path of the tree, with its name
 abbrev pub named_item : TreeItems → NameForm → List (List ℕ) → NamedItem
-named_item items form path = (name_of form (path_text path), items (path_text path))
+named_item items form path = (name_of form (path_text path), items (path_text path), false)
 
 -- All files that are left to the walk were taken in their order, and this holds of them.
 abbrev pub TakesAll : TreeItems → FolderWalk → (List NamedItem → Type 0) → Type 0
 TakesAll items walk P =
     (paths : List (List (List ℕ))) × GivesAll (is_left walk.walk items) paths × P (map (named_item items walk.form) paths)
+
+-- one of the files that are left to the walk
+abbrev pub IsLeft : TreeItems → FolderWalk → NamedItem → Type 0
+IsLeft items walk one =
+    (path : List (List ℕ)) × (one ≡ named_item items walk.form path) × (is_left walk.walk items path ≡ true)
 
 -- the walk of a folder, whose files are named after the word that names it
 pub record WalksFolder (snapshot : Option Snapshot) (settings : Settings) (folder word : List ℕ) (walk : FolderWalk) : Type 0 where
@@ -52,14 +64,19 @@ IsKindAt items path (kind.Unread fault) = is_there (items path) ≡ false
 
 abbrev pub IsPathOf : TreeItems → List ℕ → List ℕ → List ℕ → PathKind → Type 0
 IsPathOf items here word path kind =
-    (clean_fault here (operand word) ≡ None) × (path ≡ clean_path here (operand word)) × IsKindAt items path kind
+    (clean_fault here (operand word) ≡ None) × (path ≡ path_in items here (operand word)) × IsKindAt items path kind
+
+-- the path after one more name, or none where cleaning leads elsewhere
+abbrev pub StepsTo : TreeItems → List ℕ → List ℕ → Option (String Global) → Type 0
+StepsTo items path name None = may_clean items path name ≡ false
+StepsTo items path name (Some next) = (may_clean items path name ≡ true) × (string_bytes next ≡ clean_path path name)
 
 -- the path that a word leads to, and what is there
 abbrev pub IsWordPath : TreeItems → List ℕ → List ℕ → List ℕ → PathKind → Type 0
 IsWordPath items here word path kind.Folder = IsPathOf items here word path kind.Folder
 IsWordPath items here word path kind.File = IsPathOf items here word path kind.File
 IsWordPath items here word path (kind.Unread fault) =
-    clean_fault here (operand word) ≡ None → is_there (items (clean_path here (operand word))) ≡ false
+    clean_fault here (operand word) ≡ None → is_there (items (path_in items here (operand word))) ≡ false
 
 -- the names end alike, and an error that was reported stays reported
 abbrev pub KeepsListing : NameListing → NameListing → Type 0

@@ -4,10 +4,12 @@ ghost use Rattle.cs_tree.specs.PathParts.{texts};
 ghost use Rattle.cs_listing.specs.FolderReads.{InTree};
 ghost use Rattle.cs_listing.specs.Models.{chosen_in};
 ghost use Rattle.cs_fresh.specs.Calls.{AnswersRequest, DoesProject, HasBase, IsProgramFor, IsScopeOf, IsSearchFor, ListsFor, SearchesFor, name_end as name_end', words_at as words_at'};
+ghost use Rattle.cs_fresh.specs.Knowledge.{HoldsFor};
 
 use crate::call::ProjectCall;
 use crate::fault::FreshFault;
 use crate::file_search::FileSearch;
+use crate::knowledge::Knowledge;
 use crate::project::{find_in_project, list_project, search_project};
 use crate::reports::print_unread;
 use crate::scope::Scope;
@@ -31,21 +33,23 @@ struct Base {
 }
 
 /// Does what the arguments of `cs` ask for, and returns the exit status: 2 after an error, else 0
-/// if a line is marked, else 1.
-pub fn run_project<T: Look, O: Output, E: Sink>(
+/// if a line is marked, else 1. Files that are known to print nothing are not read.
+pub fn run_project<T: Look, K: Knowledge, O: Output, E: Sink>(
     call: &ProjectCall<'_>,
     tree: &mut T,
+    known: &mut K,
     out: &mut O,
     err: &mut E,
 ) -> Result<u8, FreshFault>
     ensures does { IfOk result (λ status. InTree (T.snapshot tree.old)
-        (λ items. DoesProject items call.now (O.given out.old) (O.given out.new) status)) }
+        (λ items. DoesProject (HoldsFor (K.Holds known.old) T.stamps (T.snapshot tree.old)) items call.now
+        (O.given out.old) (O.given out.new) status)) }
     ensures keeps { T.snapshot tree.new ≡ T.snapshot tree.old }
 {
     let base = base_of(call, tree, err)?;
     match read_request(call.alloc, base.choices, call.words) {
         Ok(request) => {
-            let status = answer(call, &request, tree, out, err)?;
+            let status = answer(call, &request, tree, known, out, err)?;
             Ok(status_after(base.wrong, status))
         }
         Err(RequestFault::Memory) => Err(FreshFault::Memory),
@@ -98,15 +102,17 @@ fn refuse<E: Sink>(
 }
 
 /// Does what is asked for.
-fn answer<T: Look, O: Output, E: Sink>(
+fn answer<T: Look, K: Knowledge, O: Output, E: Sink>(
     call: &ProjectCall<'_>,
     request: &Request,
     tree: &mut T,
+    known: &mut K,
     out: &mut O,
     err: &mut E,
 ) -> Result<u8, FreshFault>
     ensures answers { IfOk result (λ status. InTree (T.snapshot tree.old)
-        (λ items. AnswersRequest items call.now request.now (O.given out.old) (O.given out.new) status)) }
+        (λ items. AnswersRequest (HoldsFor (K.Holds known.old) T.stamps (T.snapshot tree.old)) items call.now
+        request.now (O.given out.old) (O.given out.new) status)) }
     ensures keeps { T.snapshot tree.new ≡ T.snapshot tree.old }
 {
     match request.switches.task {
@@ -114,7 +120,7 @@ fn answer<T: Look, O: Output, E: Sink>(
         Task::Version => Ok(print(VERSION, out)?),
         Task::Types => Ok(print_types(out)?),
         Task::Files => list(call, request, tree, out, err),
-        Task::Search => search(call, request, tree, out, err),
+        Task::Search => search(call, request, tree, known, out, err),
     }
 }
 
@@ -227,16 +233,17 @@ fn files_for<'p, T: Look>(
 }
 
 /// Searches the files. With `-q` only the status says whether a line is marked.
-fn search<T: Look, O: Output, E: Sink>(
+fn search<T: Look, K: Knowledge, O: Output, E: Sink>(
     call: &ProjectCall<'_>,
     request: &Request,
     tree: &mut T,
+    known: &mut K,
     out: &mut O,
     err: &mut E,
 ) -> Result<u8, FreshFault>
     ensures searches { IfOk result (λ status. InTree (T.snapshot tree.old)
-        (λ items. SearchesFor items call.now request.now request.now.switches.silent
-        (O.given out.old) (O.given out.new) status)) }
+        (λ items. SearchesFor (HoldsFor (K.Holds known.old) T.stamps (T.snapshot tree.old)) items call.now
+        request.now request.now.switches.silent (O.given out.old) (O.given out.new) status)) }
     ensures keeps { T.snapshot tree.new ≡ T.snapshot tree.old }
 {
     let Some(pattern) = &request.pattern else {
@@ -247,7 +254,7 @@ fn search<T: Look, O: Output, E: Sink>(
     let program = Program::compile(call.alloc, pattern)?;
     let files = files_for(call, request, &scope, &program, tree)?;
     if request.switches.silent {
-        return find_in_project(&scope, files, tree, err);
+        return find_in_project(&scope, files, tree, known, err);
     }
-    search_project(&scope, files, tree, out, err)
+    search_project(&scope, files, tree, known, out, err)
 }

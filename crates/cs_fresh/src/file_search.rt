@@ -1,21 +1,25 @@
 // The search of one file after another.
-ghost use Rattle.std.specs.Prelude.{◌≡◌, ◌≤◌, ◌∷◌, ◌||◌, [], false, IfOk, OnOk};
+ghost use Rattle.std.specs.Prelude.{◌≡◌, ◌≤◌, ◌∷◌, ◌||◌, [], true, false, string_bytes, IfOk, OnOk};
 ghost use Rattle.cs_listing.specs.FolderReads.{InTree};
-ghost use Rattle.cs_fresh.specs.Searched.{KeepsForm, ShowsItems, is_done};
-ghost use Rattle.cs_fresh.specs.Sources.{IsStatusOf, ShowsSource};
+ghost use Rattle.cs_listing.specs.Stamps.{InStamps};
+ghost use Rattle.cs_fresh.specs.Knowledge.{HoldsAsBefore, HoldsFor};
+ghost use Rattle.cs_fresh.specs.Searched.{KeepsForm, ShowsItems, binary_as, is_done};
+ghost use Rattle.cs_fresh.specs.Sources.{FindsAmong, FindsInSource, IsStatusOf, ShowsSource};
 
 use crate::fault::FreshFault;
+use crate::knowledge::Knowledge;
 use crate::reports::{Reports, status_of};
+use crate::walks::NamedPath;
 use cs_output::Output;
-use cs_project::{Ended, LineSearch, Page, ShowOptions, Window, print_file};
-use cs_tree::{Sink, Source, Tree, TreeFault, TreeReader};
+use cs_project::{BinaryFiles, Ended, LineSearch, Page, ShowOptions, Window, print_file};
+use cs_tree::{Look, Sink, Source, Tree, TreeFault, TreeReader};
 use std::alloc::{AllocError, Global};
 
 /// A search of one file after another.
 #[derive(Drop)]
 pub struct FileSearch<'p> {
     pub(crate) options: ShowOptions,
-    /// Binary files are searched too.
+    /// Binary files are searched as text (`-a`).
     pub(crate) binary: bool,
     pub(crate) search: LineSearch<'p>,
     window: Window,
@@ -52,17 +56,34 @@ impl<'p> FileSearch<'p> {
         })
     }
 
+    /// What a binary file is searched as.
+    fn binary_as(&self, named: bool) -> BinaryFiles
+        ensures { result ≡ binary_as self.now.binary named }
+    {
+        if self.binary {
+            BinaryFiles::Text
+        } else if named {
+            BinaryFiles::Binary
+        } else {
+            BinaryFiles::WithoutMatch
+        }
+    }
+
     /// Searches the text that is read from a source, and prints what is to be printed for it.
+    /// `named` says whether a word names the file.
     #[tactic(auto, using(crate::proofs::FileLemmas::source_shown, crate::proofs::FileLemmas::source_wrong))]
     fn show_source<R: Source, O: Output, E: Sink>(
         &mut self,
         name: &str,
+        named: bool,
         input: &mut R,
         out: &mut O,
         err: &mut E,
     ) -> Result<(), FreshFault>
-        ensures shown { OnOk result (ShowsSource self.old self.new name.now (R.model input.old)
+        ensures shown { OnOk result (ShowsSource self.old self.new name.now named (R.model input.old)
             (O.given out.old) (O.given out.new)) }
+        ensures found { OnOk result (FindsInSource self.old self.new name.now named
+            (R.model input.old)) }
         ensures same { KeepsForm self.old self.new }
         ensures keeps { R.Keeps input.old input.new }
     {
@@ -74,7 +95,7 @@ impl<'p> FileSearch<'p> {
         };
         let streamed = print_file(
             &page,
-            self.binary,
+            self.binary_as(named),
             input,
             &mut self.window,
             &mut self.search,
@@ -100,20 +121,50 @@ impl<'p> FileSearch<'p> {
         err: &mut E,
     ) -> Result<(), FreshFault>
         ensures shown { OnOk result (InTree (T.snapshot tree.old) (λ items. ShowsItems self.old self.new
-            ((name.now, items path.now) ∷ []) (O.given out.old) (O.given out.new))) }
+            ((name.now, items path.now, false) ∷ []) (O.given out.old) (O.given out.new))) }
+        ensures found { OnOk result (InTree (T.snapshot tree.old) (λ items. FindsAmong self.old self.new
+            (λ one. one ≡ (name.now, items path.now, false)))) }
         ensures same { KeepsForm self.old self.new }
         ensures keeps { T.snapshot tree.new ≡ T.snapshot tree.old }
     {
         match tree.open(path) {
             Ok(()) => {
                 let mut reader = TreeReader::new(tree);
-                self.show_source(name, &mut reader, out, err)
+                self.show_source(name, false, &mut reader, out, err)
             }
             Err(fault) => self.reports.unopened(name, fault, err),
         }
     }
 
-    /// The same for a file that a word names. One that is gone is reported.
+    /// The same for a file that a walk met, unless it is known to print nothing.
+    pub(crate) fn show_met<T: Look, K: Knowledge, O: Output, E: Sink>(
+        &mut self,
+        file: &NamedPath,
+        tree: &mut T,
+        known: &mut K,
+        out: &mut O,
+        err: &mut E,
+    ) -> Result<(), FreshFault>
+        requires { InStamps (T.snapshot tree.old) T.stamps
+            (λ stamps. file.now.stamp ≡ stamps (string_bytes file.now.path)) }
+        ensures shown { OnOk result (HoldsFor (K.Holds known.old) T.stamps (T.snapshot tree.old) self.old →
+            InTree (T.snapshot tree.old) (λ items. ShowsItems self.old self.new
+            ((string_bytes file.now.name, items (string_bytes file.now.path), false) ∷ [])
+            (O.given out.old) (O.given out.new))) }
+        ensures found { OnOk result (InTree (T.snapshot tree.old) (λ items. FindsAmong self.old self.new
+            (λ one. one ≡ (string_bytes file.now.name, items (string_bytes file.now.path), false)))) }
+        ensures same { KeepsForm self.old self.new }
+        ensures holds { HoldsAsBefore (K.Holds known.old) (K.Holds known.new) }
+        ensures keeps { T.snapshot tree.new ≡ T.snapshot tree.old }
+    {
+        if known.skips(file.path.as_str(), file.stamp)? {
+            return Ok(());
+        }
+        self.show_file(tree, file.path.as_str(), file.name.as_str(), out, err)
+    }
+
+    /// The same for a file that a word names. One that is gone is reported, and one that is binary
+    /// is searched.
     #[tactic(auto, using(crate::proofs::FileLemmas::path_opened, crate::proofs::FileLemmas::path_refused, crate::proofs::FileLemmas::path_reported))]
     pub(crate) fn show_named<T: Tree, O: Output, E: Sink>(
         &mut self,
@@ -124,14 +175,16 @@ impl<'p> FileSearch<'p> {
         err: &mut E,
     ) -> Result<(), FreshFault>
         ensures shown { OnOk result (InTree (T.snapshot tree.old) (λ items. ShowsItems self.old self.new
-            ((name.now, items path.now) ∷ []) (O.given out.old) (O.given out.new))) }
+            ((name.now, items path.now, true) ∷ []) (O.given out.old) (O.given out.new))) }
+        ensures found { OnOk result (InTree (T.snapshot tree.old) (λ items. FindsAmong self.old self.new
+            (λ one. one ≡ (name.now, items path.now, true)))) }
         ensures same { KeepsForm self.old self.new }
         ensures keeps { T.snapshot tree.new ≡ T.snapshot tree.old }
     {
         match tree.open(path) {
             Ok(()) => {
                 let mut reader = TreeReader::new(tree);
-                self.show_source(name, &mut reader, out, err)
+                self.show_source(name, true, &mut reader, out, err)
             }
             Err(TreeFault::Missing) => self.reports.unnamed(name, TreeFault::Missing, err),
             Err(fault) => self.reports.unopened(name, fault, err),

@@ -3,25 +3,39 @@ ghost use Rattle.std.specs.Prelude.{◌≡◌, ◌++◌, false, string_bytes, If
 ghost use Rattle.cs_tree.specs.Snapshot.{other};
 ghost use Rattle.cs_listing.specs.FolderReads.{InTree};
 ghost use Rattle.cs_listing.specs.Models.{chosen_in};
-ghost use Rattle.cs_fresh.specs.Scopes.{AreFilesBelow, AreNamed, ForItems, names_folder, operand};
+ghost use Rattle.cs_listing.specs.Stamps.{AreStamped, InStamps};
+ghost use Rattle.cs_fresh.specs.Knowledge.{HoldsAsBefore, HoldsFor};
+ghost use Rattle.cs_fresh.specs.Scopes.{AreFilesBelow, AreNamed, ForItems, IsFileBelow, IsNamed, names_folder, operand};
 ghost use Rattle.cs_fresh.specs.Searched.{IsWhole, KeepsForm, ShowsItems, is_done, names_printed};
+ghost use Rattle.cs_fresh.specs.Sources.{FindsAmong};
 ghost use Rattle.cs_fresh.specs.Walked.{IsKindAt, IsWordPath, KeepsListing, WalksFolder};
 
 use crate::fault::FreshFault;
 use crate::file_search::FileSearch;
+use crate::knowledge::Knowledge;
 use crate::names::NameForm;
+use crate::paths::word_path;
 use crate::scope::Scope;
 use crate::walks::{FolderWalk, NameListing, print_name};
 use cs_listing::laws::gives_in_order;
 use cs_listing::{Walk, path_names};
 use cs_output::Output;
-use cs_tree::{Kind, Look, PathFault, Sink, TreeFault, clean};
+use cs_tree::{Kind, Look, PathFault, Sink, TreeFault};
 use std::alloc::{AllocError, Global};
 
-/// A folder: its path, and the word that names it, which is empty for the current folder.
+/// A folder of a scope: its path, and the word that names it, which is empty for the current
+/// folder.
 #[derive(Clone, Copy, Drop)]
-pub(crate) struct NamedFolder<'n> {
+pub(crate) struct NamedFolder<'n, 'a> {
+    pub(crate) scope: Scope<'a>,
     pub(crate) path: &'n str,
+    pub(crate) word: &'n str,
+}
+
+/// A word of a scope.
+#[derive(Clone, Copy, Drop)]
+pub(crate) struct ScopeWord<'n, 'a> {
+    pub(crate) scope: Scope<'a>,
     pub(crate) word: &'n str,
 }
 
@@ -87,7 +101,7 @@ impl<'a> Scope<'a> {
             (string_bytes named.path) named.kind)) }
         ensures keeps { T.snapshot tree.new ≡ T.snapshot tree.old }
     {
-        match clean(self.alloc, self.folder, operand(word)) {
+        match word_path(self.alloc, tree, self.folder, operand(word)) {
             Ok(path) => {
                 let kind = kind_at(self.alloc, tree, path.as_str())?;
                 Ok(WordPath { path, kind })
@@ -112,119 +126,141 @@ impl<'a> Scope<'a> {
             PathKind::File | PathKind::Unread(_) => Ok(false),
         }
     }
+}
 
-    /// The walk of a folder that a word names.
-    fn walk<T: Look>(
-        &self,
-        tree: &mut T,
-        folder: NamedFolder<'_>,
-    ) -> Result<FolderWalk<'a>, AllocError>
-        ensures walks { IfOk result (WalksFolder (T.snapshot tree.old) (chosen_in self.now.choices.now)
-            folder.entry.path.now folder.entry.word.now) }
+impl<'a> NamedFolder<'_, 'a> {
+    /// The walk of the folder.
+    fn walk<T: Look>(&self, tree: &mut T) -> Result<FolderWalk<'a>, AllocError>
+        ensures walks { IfOk result (WalksFolder (T.snapshot tree.old)
+            (chosen_in self.now.scope.choices.now) self.now.path.now self.now.word.now) }
+        ensures stamps { IfOk result (λ walk. InStamps (T.snapshot tree.old) T.stamps
+            (λ stamps. AreStamped stamps walk.walk)) }
         ensures keeps { T.snapshot tree.new ≡ T.snapshot tree.old }
     {
-        let start = path_names(self.alloc, folder.path)?;
-        let walk = Walk::begin(self.alloc, tree, self.choices, &start)?;
-        let form = NameForm::new(self.alloc, folder.path, folder.word)?;
+        let start = path_names(self.scope.alloc, self.path)?;
+        let walk = Walk::begin(self.scope.alloc, tree, self.scope.choices, &start)?;
+        let form = NameForm::new(self.scope.alloc, self.path, self.word)?;
         Ok(FolderWalk {
-            alloc: self.alloc,
+            alloc: self.scope.alloc,
             walk,
             form,
         })
     }
 
-    /// Searches the files below a folder.
-    pub(crate) fn search_folder<T: Look, O: Output, E: Sink>(
+    /// Searches the files below the folder.
+    pub(crate) fn search<T: Look, K: Knowledge, O: Output, E: Sink>(
         &self,
         search: &mut FileSearch<'_>,
-        folder: NamedFolder<'_>,
         tree: &mut T,
+        known: &mut K,
         out: &mut O,
         err: &mut E,
     ) -> Result<(), FreshFault>
-        ensures searched { OnOk result (is_done search.new ≡ false → InTree (T.snapshot tree.old)
-            (λ items. ForItems (AreFilesBelow items (chosen_in self.now.choices.now)
-            folder.entry.path.now folder.entry.word.now)
+        ensures searched { OnOk result (
+            HoldsFor (K.Holds known.old) T.stamps (T.snapshot tree.old) search.old →
+            is_done search.new ≡ false → InTree (T.snapshot tree.old)
+            (λ items. ForItems (AreFilesBelow items (chosen_in self.now.scope.choices.now)
+            self.now.path.now self.now.word.now)
             (λ named. ShowsItems search.old search.new named (O.given out.old) (O.given out.new)))) }
+        ensures found { OnOk result (InTree (T.snapshot tree.old) (λ items. FindsAmong search.old search.new
+            (IsFileBelow items (chosen_in self.now.scope.choices.now) self.now.path.now
+            self.now.word.now))) }
         ensures same { KeepsForm search.old search.new }
+        ensures holds { HoldsAsBefore (K.Holds known.old) (K.Holds known.new) }
         ensures keeps { T.snapshot tree.new ≡ T.snapshot tree.old }
     {
         // What a walk gives is what a search of the folder lists.
         gives_in_order();
-        let mut walk = self.walk(tree, folder)?;
-        walk.search(search, tree, out, err)
+        let mut walk = self.walk(tree)?;
+        walk.search(search, tree, known, out, err)
     }
 
-    /// Searches what a word names.
-    pub(crate) fn search_word<T: Look, O: Output, E: Sink>(
-        &self,
-        search: &mut FileSearch<'_>,
-        word: &str,
-        tree: &mut T,
-        out: &mut O,
-        err: &mut E,
-    ) -> Result<(), FreshFault>
-        ensures searched { OnOk result (IsWhole search.new → InTree (T.snapshot tree.old)
-            (λ items. ForItems (AreNamed items (chosen_in self.now.choices.now) self.now.folder.now word.now)
-            (λ named. ShowsItems search.old search.new named (O.given out.old) (O.given out.new)))) }
-        ensures same { KeepsForm search.old search.new }
-        ensures keeps { T.snapshot tree.new ≡ T.snapshot tree.old }
-    {
-        let named = self.named(tree, word)?;
-        match named.kind {
-            PathKind::Folder => {
-                let path = named.path.as_str();
-                self.search_folder(search, NamedFolder { path, word }, tree, out, err)
-            }
-            PathKind::File => search.show_named(tree, named.path.as_str(), word, out, err),
-            PathKind::Unread(fault) => search.reports.unnamed(word, fault, err),
-        }
-    }
-
-    /// Prints the names of the files below a folder.
-    pub(crate) fn list_folder<T: Look, O: Output, E: Sink>(
+    /// Prints the names of the files below the folder.
+    pub(crate) fn list<T: Look, O: Output, E: Sink>(
         &self,
         listing: &mut NameListing<'_>,
-        folder: NamedFolder<'_>,
         tree: &mut T,
         out: &mut O,
         err: &mut E,
     ) -> Result<(), FreshFault>
         ensures listed { OnOk result (InTree (T.snapshot tree.old)
-            (λ items. ForItems (AreFilesBelow items (chosen_in self.now.choices.now)
-            folder.entry.path.now folder.entry.word.now)
+            (λ items. ForItems (AreFilesBelow items (chosen_in self.now.scope.choices.now)
+            self.now.path.now self.now.word.now)
             (λ named. O.given out.new ≡ O.given out.old ++ names_printed listing.old.end.now named))) }
         ensures same { KeepsListing listing.old listing.new }
         ensures keeps { T.snapshot tree.new ≡ T.snapshot tree.old }
     {
         gives_in_order();
-        let mut walk = self.walk(tree, folder)?;
+        let mut walk = self.walk(tree)?;
         walk.list(listing, tree, out, err)
     }
+}
 
-    /// Prints the names of the files that a word names.
-    pub(crate) fn list_word<T: Look, O: Output, E: Sink>(
+impl ScopeWord<'_, '_> {
+    /// Searches what the word names.
+    pub(crate) fn search<T: Look, K: Knowledge, O: Output, E: Sink>(
+        &self,
+        search: &mut FileSearch<'_>,
+        tree: &mut T,
+        known: &mut K,
+        out: &mut O,
+        err: &mut E,
+    ) -> Result<(), FreshFault>
+        ensures searched { OnOk result (
+            HoldsFor (K.Holds known.old) T.stamps (T.snapshot tree.old) search.old →
+            IsWhole search.new → InTree (T.snapshot tree.old)
+            (λ items. ForItems (AreNamed items (chosen_in self.now.scope.choices.now)
+            self.now.scope.folder.now self.now.word.now)
+            (λ named. ShowsItems search.old search.new named (O.given out.old) (O.given out.new)))) }
+        ensures found { OnOk result (InTree (T.snapshot tree.old) (λ items. FindsAmong search.old search.new
+            (IsNamed items (chosen_in self.now.scope.choices.now) self.now.scope.folder.now
+            self.now.word.now))) }
+        ensures same { KeepsForm search.old search.new }
+        ensures holds { HoldsAsBefore (K.Holds known.old) (K.Holds known.new) }
+        ensures keeps { T.snapshot tree.new ≡ T.snapshot tree.old }
+    {
+        let named = self.scope.named(tree, self.word)?;
+        match named.kind {
+            PathKind::Folder => {
+                let folder = NamedFolder {
+                    scope: self.scope,
+                    path: named.path.as_str(),
+                    word: self.word,
+                };
+                folder.search(search, tree, known, out, err)
+            }
+            PathKind::File => search.show_named(tree, named.path.as_str(), self.word, out, err),
+            PathKind::Unread(fault) => search.reports.unnamed(self.word, fault, err),
+        }
+    }
+
+    /// Prints the names of the files that the word names.
+    pub(crate) fn list<T: Look, O: Output, E: Sink>(
         &self,
         listing: &mut NameListing<'_>,
-        word: &str,
         tree: &mut T,
         out: &mut O,
         err: &mut E,
     ) -> Result<(), FreshFault>
         ensures listed { OnOk result (listing.new.reports.wrong ≡ false → InTree (T.snapshot tree.old)
-            (λ items. ForItems (AreNamed items (chosen_in self.now.choices.now) self.now.folder.now word.now)
+            (λ items. ForItems (AreNamed items (chosen_in self.now.scope.choices.now)
+            self.now.scope.folder.now self.now.word.now)
             (λ named. O.given out.new ≡ O.given out.old ++ names_printed listing.old.end.now named))) }
         ensures same { KeepsListing listing.old listing.new }
         ensures keeps { T.snapshot tree.new ≡ T.snapshot tree.old }
     {
-        let named = self.named(tree, word)?;
+        let named = self.scope.named(tree, self.word)?;
         match named.kind {
             PathKind::Folder => {
-                let path = named.path.as_str();
-                self.list_folder(listing, NamedFolder { path, word }, tree, out, err)
+                let folder = NamedFolder {
+                    scope: self.scope,
+                    path: named.path.as_str(),
+                    word: self.word,
+                };
+                folder.list(listing, tree, out, err)
             }
-            PathKind::File => Ok(print_name(word, listing.end, out)?),
-            PathKind::Unread(fault) => listing.reports.unnamed(word, fault, err),
+            PathKind::File => Ok(print_name(self.word, listing.end, out)?),
+            PathKind::Unread(fault) => listing.reports.unnamed(self.word, fault, err),
         }
     }
 }

@@ -3,14 +3,17 @@ ghost use Rattle.std.specs.Prelude.{◌≡◌, ◌++◌, ◌≤◌, [], false, t
 ghost use Rattle.cs_tree.specs.PathParts.{texts};
 ghost use Rattle.cs_listing.specs.FolderReads.{InTree};
 ghost use Rattle.cs_listing.specs.Models.{chosen_in};
-ghost use Rattle.cs_fresh.specs.Scopes.{AreAllNamed, AreItemsOf, ForItems, are_several};
+ghost use Rattle.cs_fresh.specs.Knowledge.{HoldsAsBefore, HoldsFor, by_names};
+ghost use Rattle.cs_fresh.specs.Scopes.{AreAllNamed, AreItemsOf, ForItems, IsAnyNamed, IsItemOf, are_several};
 ghost use Rattle.cs_fresh.specs.Searched.{IsWhole, KeepsForm, ShowsItems, names_printed};
+ghost use Rattle.cs_fresh.specs.Sources.{FindsAmong};
 ghost use Rattle.cs_fresh.specs.Walked.{KeepsListing};
-ghost use Rattle.cs_fresh.specs.Projects.{FindsNone, ListsProject, SearchesProject};
+ghost use Rattle.cs_fresh.specs.Projects.{FindsInProject, ListsProject, SearchesProject};
 
 use crate::fault::FreshFault;
 use crate::file_search::FileSearch;
-use crate::places::NamedFolder;
+use crate::knowledge::Knowledge;
+use crate::places::{NamedFolder, ScopeWord};
 use crate::reports::{Reports, status_of};
 use crate::scope::Scope;
 use crate::unprinted::Unprinted;
@@ -22,41 +25,48 @@ use std::alloc::AllocError;
 
 /// Searches the items of a scope, and returns the exit status: 2 after an error, or if not all
 /// matches of a line were found; else 0 if a line is marked, or else 1.
-pub fn search_project<T: Look, O: Output, E: Sink>(
+pub fn search_project<T: Look, K: Knowledge, O: Output, E: Sink>(
     scope: &Scope<'_>,
     mut search: FileSearch<'_>,
     tree: &mut T,
+    known: &mut K,
     out: &mut O,
     err: &mut E,
 ) -> Result<u8, FreshFault>
-    ensures searched { IfOk result (λ status. InTree (T.snapshot tree.old)
-        (λ items. SearchesProject items scope.now search.entry (O.given out.old) (O.given out.new) status)) }
+    ensures searched { IfOk result (λ status.
+        HoldsFor (K.Holds known.old) T.stamps (T.snapshot tree.old) search.entry →
+        InTree (T.snapshot tree.old) (λ items. SearchesProject items scope.now search.entry
+        (O.given out.old) (O.given out.new) status)) }
     ensures status { IfOk result (λ status. status ≤ 2) }
     ensures keeps { T.snapshot tree.new ≡ T.snapshot tree.old }
 {
     search.quick = false;
-    scope.search(&mut search, tree, out, err)?;
+    scope.search(&mut search, tree, known, out, err)?;
     search.status(err)
 }
 
 /// Searches the items of a scope up to the first marked line, prints only errors, and returns the
-/// exit status: 0 if a line is marked, even after an error; else 2 after an error, or else 1.
-pub fn find_in_project<T: Look, E: Sink>(
+/// exit status: 0 if a line is marked, even after an error; else 2 after an error, or else 1. It
+/// does not matter whether a line was marked before.
+pub fn find_in_project<T: Look, K: Knowledge, E: Sink>(
     scope: &Scope<'_>,
     mut search: FileSearch<'_>,
     tree: &mut T,
+    known: &mut K,
     err: &mut E,
 ) -> Result<u8, FreshFault>
-    ensures none { IfOk result (λ status. InTree (T.snapshot tree.old)
-        (λ items. FindsNone items scope.now search.entry status)) }
+    ensures found { IfOk result (λ status.
+        HoldsFor (K.Holds known.old) T.stamps (T.snapshot tree.old) (by_names search.entry) →
+        InTree (T.snapshot tree.old) (λ items. FindsInProject items scope.now search.entry status)) }
     ensures status { IfOk result (λ status. status ≤ 2) }
     ensures keeps { T.snapshot tree.new ≡ T.snapshot tree.old }
 {
     search.quick = true;
+    search.marked = false;
     search.options = for_names(search.options);
     let mut out = Unprinted::new();
-    scope.search(&mut search, tree, &mut out, err)?;
-    if search.marked {
+    scope.search(&mut search, tree, known, &mut out, err)?;
+    if search.marked && !search.has_stopped() {
         return Ok(0);
     }
     search.status(err)
@@ -100,11 +110,13 @@ fn for_names(options: ShowOptions) -> ShowOptions
 
 impl<'a> Scope<'a> {
     /// The current folder.
-    fn here(&self) -> NamedFolder<'a>
+    fn here(&self) -> NamedFolder<'a, 'a>
+        ensures scope { result.scope ≡ self.now }
         ensures path { result.path.now ≡ self.now.folder.now }
         ensures word { result.word.now ≡ [] }
     {
         NamedFolder {
+            scope: *self,
             path: self.folder,
             word: "",
         }
@@ -123,42 +135,55 @@ impl<'a> Scope<'a> {
     }
 
     /// Searches the items one after another.
-    fn search<T: Look, O: Output, E: Sink>(
+    fn search<T: Look, K: Knowledge, O: Output, E: Sink>(
         &self,
         search: &mut FileSearch<'_>,
         tree: &mut T,
+        known: &mut K,
         out: &mut O,
         err: &mut E,
     ) -> Result<(), FreshFault>
-        ensures searched { OnOk result (IsWhole search.new → InTree (T.snapshot tree.old)
-            (λ items. ForItems (AreItemsOf items self.now)
+        ensures searched { OnOk result (
+            HoldsFor (K.Holds known.old) T.stamps (T.snapshot tree.old) search.old →
+            IsWhole search.new → InTree (T.snapshot tree.old) (λ items. ForItems (AreItemsOf items self.now)
             (λ named. ShowsItems search.old search.new named (O.given out.old) (O.given out.new)))) }
+        ensures found { OnOk result (InTree (T.snapshot tree.old)
+            (λ items. FindsAmong search.old search.new (IsItemOf items self.now))) }
         ensures same { KeepsForm search.old search.new }
+        ensures holds { HoldsAsBefore (K.Holds known.old) (K.Holds known.new) }
         ensures keeps { T.snapshot tree.new ≡ T.snapshot tree.old }
     {
         if self.words.is_empty() {
-            return self.search_folder(search, self.here(), tree, out, err);
+            return self.here().search(search, tree, known, out, err);
         }
-        self.search_words(search, tree, out, err)
+        self.search_words(search, tree, known, out, err)
     }
 
     /// Searches what the words name.
-    fn search_words<T: Look, O: Output, E: Sink>(
+    fn search_words<T: Look, K: Knowledge, O: Output, E: Sink>(
         &self,
         search: &mut FileSearch<'_>,
         tree: &mut T,
+        known: &mut K,
         out: &mut O,
         err: &mut E,
     ) -> Result<(), FreshFault>
-        ensures searched { OnOk result (IsWhole search.new → InTree (T.snapshot tree.old)
+        ensures searched { OnOk result (
+            HoldsFor (K.Holds known.old) T.stamps (T.snapshot tree.old) search.old →
+            IsWhole search.new → InTree (T.snapshot tree.old)
             (λ items. ForItems (AreAllNamed items (chosen_in self.now.choices.now) self.now.folder.now
             (texts self.now.words.now))
             (λ named. ShowsItems search.old search.new named (O.given out.old) (O.given out.new)))) }
+        ensures found { OnOk result (InTree (T.snapshot tree.old) (λ items. FindsAmong search.old search.new
+            (IsAnyNamed items (chosen_in self.now.choices.now) self.now.folder.now
+            (texts self.now.words.now)))) }
         ensures same { KeepsForm search.old search.new }
+        ensures holds { HoldsAsBefore (K.Holds known.old) (K.Holds known.new) }
         ensures keeps { T.snapshot tree.new ≡ T.snapshot tree.old }
     {
         'words: for word in self.words {
-            self.search_word(search, word, tree, out, err)?;
+            let named = ScopeWord { scope: *self, word };
+            named.search(search, tree, known, out, err)?;
             if search.is_done() {
                 return Ok(());
             }
@@ -181,7 +206,7 @@ impl<'a> Scope<'a> {
         ensures keeps { T.snapshot tree.new ≡ T.snapshot tree.old }
     {
         if self.words.is_empty() {
-            return self.list_folder(listing, self.here(), tree, out, err);
+            return self.here().list(listing, tree, out, err);
         }
         self.list_words(listing, tree, out, err)
     }
@@ -202,7 +227,8 @@ impl<'a> Scope<'a> {
         ensures keeps { T.snapshot tree.new ≡ T.snapshot tree.old }
     {
         'words: for word in self.words {
-            self.list_word(listing, word, tree, out, err)?;
+            let named = ScopeWord { scope: *self, word };
+            named.list(listing, tree, out, err)?;
         }
         Ok(())
     }

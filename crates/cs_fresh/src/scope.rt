@@ -6,8 +6,9 @@ use cs_listing::Choices;
 use std::alloc::Global;
 
 /// Where a search looks: the files and folders that the words name, or the current folder if there
-/// are no words. A word is joined to the current folder, and cleaned, as text: after a link, `..`
-/// leads to the folder of the link.
+/// are no words. A word is joined to the current folder, and cleaned as text, unless one of its
+/// `..` follows a link. Then it leads where the system says, and the rule files are those of the
+/// folders along the word as it is.
 #[derive(Clone, Copy, Drop)]
 pub struct Scope<'a> {
     pub(crate) alloc: Global,

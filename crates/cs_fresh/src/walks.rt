@@ -1,23 +1,28 @@
 // The files below a folder, one after another.
 ghost use Rattle.std.specs.Prelude.{◌≡◌, ◌<◌, ◌++◌, false, IsSome, IfOk, OnOk};
 ghost use Rattle.cs_listing.specs.FolderReads.{InTree};
+ghost use Rattle.cs_listing.specs.Stamps.{AreStamped, InStamps};
 ghost use Rattle.cs_listing.specs.Walk.{IsWalkIn, walk_weight};
+ghost use Rattle.cs_fresh.specs.Knowledge.{HoldsAsBefore, HoldsFor};
 ghost use Rattle.cs_fresh.specs.Searched.{KeepsForm, ShowsItems, is_done, names_printed};
-ghost use Rattle.cs_fresh.specs.Walked.{GivesFile, KeepsListing, TakesAll};
+ghost use Rattle.cs_fresh.specs.Sources.{FindsAmong};
+ghost use Rattle.cs_fresh.specs.Walked.{GivesFile, GivesStampedFile, IsLeft, KeepsListing, TakesAll};
 
 use crate::fault::FreshFault;
 use crate::file_search::FileSearch;
+use crate::knowledge::Knowledge;
 use crate::names::NameForm;
 use crate::reports::Reports;
 use cs_listing::{Found, Walk};
 use cs_output::Output;
-use cs_tree::{Look, Sink};
+use cs_tree::{Look, Sink, Stamp};
 use std::alloc::{AllocError, Global};
 
-/// A file: its path, and the name that it is printed with.
+/// A file: its path, its stamp, and the name that it is printed with.
 #[derive(Drop)]
 pub(crate) struct NamedPath {
     pub(crate) path: String,
+    pub(crate) stamp: Option<Stamp>,
     pub(crate) name: String,
 }
 
@@ -47,6 +52,8 @@ impl FolderWalk<'_> {
     ) -> Result<Option<NamedPath>, FreshFault>
         ensures gives { IfOk result (λ next. InTree (T.snapshot tree.old)
             (λ items. IsWalkIn items self.old.walk → GivesFile items self.old self.new next)) }
+        ensures stamps { IfOk result (λ next. InStamps (T.snapshot tree.old) T.stamps
+            (λ stamps. AreStamped stamps self.old.walk → GivesStampedFile stamps self.new next)) }
         ensures nearer { IfOk result (λ next. IsSome next →
             walk_weight self.new.walk < walk_weight self.old.walk) }
         ensures form { self.new.form ≡ self.old.form }
@@ -59,6 +66,7 @@ impl FolderWalk<'_> {
                     let name = self.form.name(self.alloc, file.path.as_str())?;
                     return Ok(Some(NamedPath {
                         path: file.path,
+                        stamp: file.stamp,
                         name,
                     }));
                 }
@@ -72,21 +80,28 @@ impl FolderWalk<'_> {
     }
 
     /// Searches the files that are left to the walk, in the order of their paths.
-    pub(crate) fn search<T: Look, O: Output, E: Sink>(
+    pub(crate) fn search<T: Look, K: Knowledge, O: Output, E: Sink>(
         &mut self,
         search: &mut FileSearch<'_>,
         tree: &mut T,
+        known: &mut K,
         out: &mut O,
         err: &mut E,
     ) -> Result<(), FreshFault>
-        ensures searched { OnOk result (is_done search.new ≡ false → InTree (T.snapshot tree.old)
+        requires { InStamps (T.snapshot tree.old) T.stamps (λ stamps. AreStamped stamps self.old.walk) }
+        ensures searched { OnOk result (
+            HoldsFor (K.Holds known.old) T.stamps (T.snapshot tree.old) search.old →
+            is_done search.new ≡ false → InTree (T.snapshot tree.old)
             (λ items. IsWalkIn items self.old.walk → TakesAll items self.old
             (λ named. ShowsItems search.old search.new named (O.given out.old) (O.given out.new)))) }
+        ensures found { OnOk result (InTree (T.snapshot tree.old) (λ items. IsWalkIn items self.old.walk →
+            FindsAmong search.old search.new (IsLeft items self.old))) }
         ensures same { KeepsForm search.old search.new }
+        ensures holds { HoldsAsBefore (K.Holds known.old) (K.Holds known.new) }
         ensures keeps { T.snapshot tree.new ≡ T.snapshot tree.old }
     {
         'files: while let Some(file) = self.next(tree, &mut search.reports, err)? {
-            search.show_file(tree, file.path.as_str(), file.name.as_str(), out, err)?;
+            search.show_met(&file, tree, known, out, err)?;
             if search.is_done() {
                 return Ok(());
             }

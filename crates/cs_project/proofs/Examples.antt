@@ -9,8 +9,8 @@ use Rattle.cs_project.specs.declared.form.ShowOptions.{ShowOptions}
 use Rattle.cs_project.specs.Contexts.{first_marks, shown_after}
 use Rattle.cs_project.specs.Forms.{Span}
 use Rattle.cs_project.specs.Findings.{Finding}
-use Rattle.cs_tree.specs.Snapshot.{bad, denied, missing}
-use Rattle.cs_project.specs.Project.{item_shown, status_of}
+use Rattle.cs_project.specs.Project.{nothing_shown, text_shown}
+use Rattle.cs_project.specs.declared.binary.BinaryFiles.TheVariants.{WithoutMatch, Binary, Text}
 use Rattle.cs_project.specs.Shown.{text_groups, joined, between}
 
 marks : List Bool
@@ -214,10 +214,23 @@ spans_of_a_line : finding.spans (codes "ab ab") ≡ (0, 2) ∷ (3, 5) ∷ []
 unfolding finding is_ab spans_if
 spans_of_a_line = refl
 
-a_file_that_cannot_be_read : status_of (item_shown counted false finding (codes "f") (bad denied)) ≡ 2
-unfolding counted plain
-a_file_that_cannot_be_read = refl
+-- a text with a NUL
+binary : List ℕ
+binary = codes "ab ab\n" ++ 0 ∷ codes "\nab ab\n"
 
-a_file_that_is_gone : status_of (item_shown counted false finding (codes "f") (bad missing)) ≡ 1
-unfolding counted plain
-a_file_that_is_gone = refl
+a_binary_file_that_is_named : (text_shown plain finding (codes "f") Binary binary).groups ≡ codes "f: binary file matches\n" ∷ []
+unfolding plain numbered binary finding is_ab lines
+a_binary_file_that_is_named = refl
+
+a_binary_file_that_is_counted : (text_shown counted finding (codes "f") Binary binary).groups ≡ codes "f:2\n" ∷ []
+unfolding counted plain numbered binary finding is_ab lines digits
+a_binary_file_that_is_counted = refl
+
+a_binary_file_that_is_met : text_shown plain finding (codes "f") WithoutMatch binary ≡ nothing_shown
+unfolding binary
+a_binary_file_that_is_met = refl
+
+a_binary_file_as_text : (text_shown plain finding (codes "f") Text binary).groups
+    ≡ codes "f:1:ab ab\n" ∷ codes "f:3:ab ab\n" ∷ []
+unfolding plain numbered binary finding is_ab lines digits spans_if
+a_binary_file_as_text = refl

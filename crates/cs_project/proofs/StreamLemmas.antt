@@ -16,7 +16,7 @@ use Rattle.cs_project.specs.Printed.{PrintsLines, HasMark, page_groups}
 use Rattle.cs_project.specs.Scans.{Fits, SearchesLast, last_rows, rows_at, rows_by, scan_rows}
 use Rattle.cs_project.specs.Shown.{following, gap, line_gap, shown_bytes, text_rows}
 use Rattle.cs_project.specs.Spacing.{Progress, fresh_rows, opening_of, printed_by, progress_of, spaced}
-use Rattle.cs_project.specs.Streams.{BeginsLines, IsReady, StreamsRows, is_whole}
+use Rattle.cs_project.specs.Streams.{BeginsLines, FindsMark, IsReady, StreamsRows, is_whole}
 use Rattle.cs_project.specs.declared.rows.Page.{Page}
 use Rattle.cs_project.specs.declared.rows.Rows.{Rows}
 use Rattle.cs_project.specs.declared.search.LineSearch.{LineSearch}
@@ -25,7 +25,7 @@ use Rattle.cs_project.proofs.FindingLemmas.{found_same}
 use Rattle.cs_project.proofs.MarkLemmas.{rows_if_marked}
 use Rattle.cs_project.proofs.ScanLemmas.{scan_at, fits_none}
 use Rattle.cs_project.proofs.SpacingLemmas.{printed_given}
-use Rattle.cs_project.proofs.TextLemmas.{follows, shown_is}
+use Rattle.cs_project.proofs.TextLemmas.{follows, shown_is, shown_true}
 
 -- the lines of whole lines and of what follows them
 pub lines_append : (a b : List ℕ) → AreWholeLines a → lines (a ++ b) ≡ terminated_lines a ++ lines b
@@ -236,6 +236,19 @@ module _ (search search' : LineSearch) (page : Page) (first given : List ℕ) wh
             ∙ printed_given (opening_of rows.page) (gap options) (shown_bytes options finding rows.page.name.now) later (progress_of rows given'),
       )
 
+  -- a row was shown
+  pub begun_found : (rows : Rows) (given' : List ℕ) (from : ℕ) (text all rest : List ℕ) → StillPrints rows given' from text all rest →
+      FindsMark search search' page (first ++ all) rows.shown
+  begun_found rows given' from text all rest h none finding found marks =
+      let options = page.options.now in
+      let now = rows.page.options.now in
+      let later = rows_by rows finding (terminated_lines (take from text)) (lines (drop from text ++ rest)) in
+      sym (rows_if_marked options finding (first ++ all))
+      ∙ sym (shown_is options finding page.name.now (opening_of page) (gap options) (text_rows options finding (first ++ all))
+      (progress_of (fresh_rows page) given) refl)
+      ∙ ap (λ p. p.shown) (h none finding found)
+      ∙ shown_true now finding rows.page.name.now (opening_of rows.page) (gap now) later (progress_of rows given') marks
+
   pub all_begun : (rows : Rows) (given' all : List ℕ) → IsAllPrinted rows given' all → BeginsLines search search' page (first ++ all) given given'
   all_begun rows given' all h none finding found =
       ([], sym (all_given finding all) ∙ sym (ap (λ p. p.given) (h none finding found)) ∙ sym (append-nil given'))
@@ -246,6 +259,11 @@ Streams search search' page first given later streamed all =
     (is_whole streamed.ended ≡ true → PrintsLines search search' page (first ++ all) given later
     × HasMark search search' page (first ++ all) streamed.marked)
     × BeginsLines search search' page (first ++ all) given later
+    × FindsMark search search' page (first ++ all) streamed.marked
+
+pub has_found : (search search' : LineSearch) (page : Page) (text : List ℕ) (marked : Bool) → HasMark search search' page text marked →
+    FindsMark search search' page text marked
+has_found search search' page text marked has none finding found marks = sym (has none finding found) ∙ marks
 
 -- ---- a block after another
 

@@ -75,7 +75,7 @@ module _ (options : ShowOptions) (finding : Finding) (name : List ℕ) where
       by_above true group = refl
       by_above false group = has_first row (groups_of (row ∷ rows)) (begins row (groups_of rows))
 
-  shown_true : (opening gap : List ℕ) (rows : List Row) (p : Progress) → p.shown ≡ true → (printed opening gap bytes p rows).shown ≡ true
+  pub shown_true : (opening gap : List ℕ) (rows : List Row) (p : Progress) → p.shown ≡ true → (printed opening gap bytes p rows).shown ≡ true
   shown_true opening gap [] p is = is
   shown_true opening gap (row ∷ rows) p is = shown_true opening gap rows _ refl
 

@@ -1,9 +1,9 @@
 -- The number of wanted lines of a text that is read block by block.
-use Rattle.std.specs.Prelude.{ℕ, ◌≡◌, ◌+◌, ◌≤◌, Bool, true, false, not, List, [], ◌++◌, nat_lt, length, drop, nat_le, Option, Some, None, IfSome}
+use Rattle.std.specs.Prelude.{ℕ, ◌≡◌, ◌+◌, ◌≤◌, Bool, true, false, List, ◌++◌, length, drop, nat_le, Option, Some, None, IfSome}
 use Rattle.cs_match.specs.NoNewline.{HasNoNewline}
 use Rattle.cs_tree.specs.StreamModels.{SourceModel}
 use Rattle.cs_project.specs.Findings.{Finding, Tests}
-use Rattle.cs_project.specs.Shown.{at_most, count_groups, name_groups, wanted_count}
+use Rattle.cs_project.specs.Shown.{at_most, wanted_count}
 use Rattle.cs_project.specs.Streams.{is_whole}
 use Rattle.cs_project.specs.declared.counting.Counted.{Counted}
 use Rattle.cs_project.specs.declared.counting.EndedLines.{EndedLines}
@@ -32,22 +32,16 @@ pub record CountsWindow (options : ShowOptions) (search : LineSearch) (text text
   pub counted : (finding : Finding) (more : List ℕ) → Tests finding.has_match search →
       wanted_count options finding (text ++ more) ≡ count + wanted_count options finding (text' ++ more)
 
--- The wanted lines were counted, up to `most`.
+-- The wanted lines were counted, up to `most`; of a text that was not read to its end, some of them.
 abbrev pub CountsText : LineSearch → ShowOptions → Option ℕ → Option SourceModel → List ℕ → Counted → Type 0
 CountsText search options most model first counted = IfSome model (λ source.
-    is_whole counted.ended ≡ true → (finding : Finding) → Tests finding.has_match search →
-    at_most most counted.count ≡ at_most most (wanted_count options finding (first ++ source.bytes)))
+    (finding : Finding) → Tests finding.has_match search →
+    (is_whole counted.ended ≡ true → at_most most counted.count ≡ at_most most (wanted_count options finding (first ++ source.bytes)))
+    × (counted.count ≤ wanted_count options finding (first ++ source.bytes)))
 
--- how many lines have to be counted: one is enough for a name
+-- how many lines have to be counted, where none is printed: one is enough, except for -c
 abbrev pub limit_by : Mode → Option ℕ → Option ℕ
-limit_by Lines most = most
+limit_by Lines most = Some (at_most most 1)
 limit_by Counts most = most
 limit_by Names most = Some (at_most most 1)
 limit_by Others most = Some (at_most most 1)
-
--- what is printed for a text with so many marked lines, where no line is shown
-abbrev pub total_groups : ShowOptions → List ℕ → Mode → ℕ → List (List ℕ)
-total_groups options name Lines count = []
-total_groups options name Counts count = count_groups options name count
-total_groups options name Names count = name_groups options name (nat_lt 0 count)
-total_groups options name Others count = name_groups options name (not (nat_lt 0 count))

@@ -65,6 +65,17 @@ module _ (options : ShowOptions) (name : List ℕ) where
   abbrev pub name_groups : Bool → List (List ℕ)
   name_groups here = if here then name_bytes (newline ∷ []) ∷ [] else []
 
+  -- a binary text with a marked line
+  abbrev pub binary_groups : Bool → List (List ℕ)
+  binary_groups here = if here then (dyed options.form (codes "35") name ++ codes ": binary file matches\n") ∷ [] else []
+
+  -- what is printed for a text with so many marked lines whose lines are not printed
+  abbrev pub total_groups : Mode → ℕ → List (List ℕ)
+  total_groups Lines count = binary_groups (nat_lt 0 count)
+  total_groups Counts count = count_groups count
+  total_groups Names count = name_groups (nat_lt 0 count)
+  total_groups Others count = name_groups (not (nat_lt 0 count))
+
 module _ (options : ShowOptions) (finding : Finding) where
   -- the lines that are shown
   abbrev pub text_rows : List ℕ → List Row
@@ -91,9 +102,7 @@ module _ (options : ShowOptions) (finding : Finding) where
 
     abbrev pub groups_by : Mode → List ℕ → List (List ℕ)
     groups_by Lines text = line_groups (text_rows text)
-    groups_by Counts text = count_groups options name (count_of text)
-    groups_by Names text = name_groups options name (nat_lt 0 (count_of text))
-    groups_by Others text = name_groups options name (not (nat_lt 0 (count_of text)))
+    groups_by mode text = total_groups options name mode (count_of text)
 
     -- The groups of lines that are printed for a text.
     abbrev pub text_groups : List ℕ → List (List ℕ)

@@ -1,13 +1,15 @@
 -- The lines of a text that is read block by block.
-use Rattle.std.specs.Prelude.{ℕ, ◌≡◌, ◌≤◌, ◌+◌, ◌-◌, Bool, true, false, not, ◌&&◌, List, ◌++◌, length, take, drop, slice_range, Option, IfSome}
+use Rattle.std.specs.Prelude.{ℕ, ◌≡◌, ◌≤◌, ◌+◌, ◌-◌, Bool, true, false, nat_lt, List, ◌++◌, length, take, drop, slice_range, Option, IfSome}
 use Rattle.cs_match.specs.Lines.{lines, terminated_lines}
 use Rattle.cs_match.specs.NoNewline.{HasNoNewline}
 use Rattle.cs_match.specs.Skipping.{AreWholeLines}
 use Rattle.cs_project.specs.Findings.{Finding, IsFoundBy}
 use Rattle.cs_project.specs.Scans.{Fits, rows_by}
 use Rattle.cs_project.specs.Spacing.{printed_by, progress_of}
-use Rattle.cs_project.specs.Printed.{PrintsItem, PrintsLines, PrintsText, HasMark, page_groups}
-use Rattle.cs_project.specs.Shown.{between, following, is_binary, line_gap, text_groups}
+use Rattle.cs_project.specs.Printed.{PrintsItem, PrintsLines, PrintsText, PrintsTotal, HasMark, page_groups}
+use Rattle.cs_project.specs.Project.{searched_as, text_shown}
+use Rattle.cs_project.specs.Shown.{between, count_of, following, line_gap, text_groups}
+use Rattle.cs_project.specs.declared.binary.BinaryFiles.{BinaryFiles}
 use Rattle.cs_project.specs.declared.rows.Page.{Page}
 use Rattle.cs_project.specs.declared.rows.Rows.{Rows}
 use Rattle.cs_project.specs.declared.search.LineSearch.{LineSearch}
@@ -69,6 +71,11 @@ is_whole Whole = true
 is_whole Failed = false
 is_whole TooLong = false
 
+-- a line of the text is marked, if this says so
+abbrev pub FindsMark : LineSearch → LineSearch → Page → List ℕ → Bool → Type 0
+FindsMark search search' page text marked = search'.stopped ≡ false → (finding : Finding) → IsFoundBy finding search →
+    marked ≡ true → nat_lt 0 (count_of page.options.now finding text) ≡ true
+
 -- What was printed begins what is printed for the lines of the text.
 abbrev pub BeginsLines : LineSearch → LineSearch → Page → List ℕ → List ℕ → List ℕ → Type 0
 BeginsLines search search' page text given later = search'.stopped ≡ false → (finding : Finding) → IsFoundBy finding search →
@@ -81,7 +88,8 @@ abbrev pub StreamsLines : LineSearch → LineSearch → Page → Option SourceMo
 StreamsLines search search' page model first given later streamed = IfSome model (λ source.
     (is_whole streamed.ended ≡ true → PrintsLines search search' page (first ++ source.bytes) given later
     × HasMark search search' page (first ++ source.bytes) streamed.marked)
-    × BeginsLines search search' page (first ++ source.bytes) given later)
+    × BeginsLines search search' page (first ++ source.bytes) given later
+    × FindsMark search search' page (first ++ source.bytes) streamed.marked)
 
 -- What was printed begins what is printed for the text.
 abbrev pub BeginsText : LineSearch → LineSearch → Page → List ℕ → List ℕ → List ℕ → Type 0
@@ -94,10 +102,24 @@ abbrev pub StreamsText : LineSearch → LineSearch → Page → Option SourceMod
 StreamsText search search' page model first given later streamed = IfSome model (λ source.
     (is_whole streamed.ended ≡ true → PrintsText search search' page (first ++ source.bytes) given later
     × HasMark search search' page (first ++ source.bytes) streamed.marked)
-    × BeginsText search search' page (first ++ source.bytes) given later)
+    × BeginsText search search' page (first ++ source.bytes) given later
+    × FindsMark search search' page (first ++ source.bytes) streamed.marked)
 
--- The text of a source was printed, if it was read to its end, or as far as it matters: a binary one prints nothing, except
--- with -a.
-abbrev pub PrintsFile : LineSearch → LineSearch → Page → Bool → Option SourceModel → List ℕ → List ℕ → Streamed → Type 0
+-- The same without its lines. Nothing was printed for a text that was not read to its end.
+abbrev pub StreamsTotal : LineSearch → LineSearch → Page → Option SourceModel → List ℕ → List ℕ → List ℕ → Streamed → Type 0
+StreamsTotal search search' page model first given later streamed = IfSome model (λ source.
+    (is_whole streamed.ended ≡ true → PrintsTotal search search' page (first ++ source.bytes) given later
+    × HasMark search search' page (first ++ source.bytes) streamed.marked)
+    × (is_whole streamed.ended ≡ false → later ≡ given)
+    × FindsMark search search' page (first ++ source.bytes) streamed.marked)
+
+-- The text of a source was printed, if it was read to its end, or as far as it matters.
+abbrev pub PrintsFile : LineSearch → LineSearch → Page → BinaryFiles → Option SourceModel → List ℕ → List ℕ → Streamed → Type 0
 PrintsFile search search' page binary model given later streamed = IfSome model (λ source. is_whole streamed.ended ≡ true →
-    PrintsItem search search' page (is_binary source.bytes && not binary) source.bytes given later streamed.marked)
+    PrintsItem search search' page (searched_as binary source.bytes) source.bytes given later streamed.marked)
+
+-- A line of the text is marked, if this is said, also of one that was not read to its end.
+abbrev pub FindsInFile : LineSearch → LineSearch → Page → BinaryFiles → Option SourceModel → Streamed → Type 0
+FindsInFile search search' page binary model streamed = IfSome model (λ source.
+    search'.stopped ≡ false → (finding : Finding) → IsFoundBy finding search → streamed.marked ≡ true →
+    (text_shown page.options.now finding page.name.now binary source.bytes).marked ≡ true)

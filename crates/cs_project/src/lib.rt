@@ -1,7 +1,7 @@
 //! What `cs` prints of a text. Read `specs/Contexts.antt` first (which lines are shown),
 //! then `specs/Forms.antt` (a line as it is printed), `specs/Findings.antt` (which lines match, and
 //! where) and `specs/Shown.antt` (a text, and texts one after another). `specs/Project.antt` says
-//! what is printed for an item of a tree, and the exit status.
+//! what is printed for a file of a project, which may be binary, and the exit status.
 //!
 //! A block of lines is searched for its next line to show, by the matcher of cs_match. `Rows` holds
 //! the lines before it that may still be shown, and how many after the last one are to be. A line
@@ -35,7 +35,7 @@ mod text;
 mod window;
 mod words;
 
-pub use binary::is_binary;
+pub use binary::{BinaryFiles, is_binary};
 pub use form::{LineForm, Mode, ShowOptions};
 pub use letter_case::{LetterCase, case_of};
 pub use named::{Named, Switch, Valued};

@@ -83,7 +83,7 @@ impl Page<'_> {
     }
 
     /// What is between the lines of two texts.
-    fn print_between<O: Output>(&self, out: &mut O) -> Result<(), AllocError>
+    pub(crate) fn print_between<O: Output>(&self, out: &mut O) -> Result<(), AllocError>
         ensures { Prints (O.given out.old) (O.given out.new) (line_gap self.now.options.now) result }
     {
         if self.options.form.heading {

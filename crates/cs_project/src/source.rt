@@ -1,13 +1,13 @@
 // The printing of a text that is read from a source.
-ghost use Rattle.std.specs.Prelude.{◌≡◌, ◌<◌, ◌+◌, ◌^◌, ◌&&◌, [], false, not, nat_lt, IfOk, length};
+ghost use Rattle.std.specs.Prelude.{◌≡◌, ◌<◌, ◌+◌, ◌^◌, nat_lt, IfOk, length};
 ghost use Rattle.cs_tree.specs.Failures.{count_if};
-ghost use Rattle.cs_project.specs.Counts.{limit_by, total_groups};
+ghost use Rattle.cs_project.specs.Counts.{limit_by};
 ghost use Rattle.cs_project.specs.Findings.{KeepsSearch};
 ghost use Rattle.cs_project.specs.Printing.{Prints};
-ghost use Rattle.cs_project.specs.Shown.{following, is_binary, shows_lines};
-ghost use Rattle.cs_project.specs.Streams.{PrintsFile, StreamsText, is_failed};
+ghost use Rattle.cs_project.specs.Shown.{between, following, total_groups};
+ghost use Rattle.cs_project.specs.Streams.{FindsInFile, PrintsFile, StreamsText, StreamsTotal, is_failed};
 
-use crate::binary::is_binary;
+use crate::binary::{BinaryFiles, searched_as};
 use crate::counting::stream_count;
 use crate::form::{Mode, ShowOptions};
 use crate::rows::Page;
@@ -19,26 +19,26 @@ use cs_tree::Source;
 use std::alloc::AllocError;
 
 impl ShowOptions {
-    /// How many lines have to be counted.
+    /// How many lines have to be counted, where none is printed.
     fn limit(&self) -> Option<u64>
         ensures { result ≡ limit_by self.now.mode self.now.most }
     {
         match self.mode {
-            Mode::Names | Mode::Others => Some(self.at_most(1)),
-            Mode::Lines | Mode::Counts => self.most,
+            Mode::Lines | Mode::Names | Mode::Others => Some(self.at_most(1)),
+            Mode::Counts => self.most,
         }
     }
 }
 
 impl Page<'_> {
-    /// The count or the name of a text with so many marked lines.
+    /// What is printed for a text with so many marked lines, where none is printed.
     fn print_total<O: Output>(&self, count: u64, out: &mut O) -> Result<(), AllocError>
         ensures { Prints (O.given out.old) (O.given out.new)
-            (following [] self.now.begun (total_groups self.now.options.now self.now.name.now
-            self.now.options.now.mode count)) result }
+            (following (between self.now.options.now) self.now.begun (total_groups self.now.options.now
+            self.now.name.now self.now.options.now.mode count)) result }
     {
         match self.options.mode {
-            Mode::Lines => Ok(()),
+            Mode::Lines => self.print_binary(count > 0, out),
             Mode::Counts => self.print_count(count, out),
             Mode::Names => self.print_listed(count > 0, out),
             Mode::Others => self.print_listed(count == 0, out),
@@ -53,7 +53,8 @@ fn has_some(count: u64) -> bool
     count > 0
 }
 
-/// Prints the count or the name of a text. The window has its first bytes, and the source the rest.
+/// Prints what is to be printed for a text without its lines. The window has its first bytes, and
+/// the source the rest.
 fn stream_total<R: Source, O: Output>(
     page: &Page<'_>,
     input: &mut R,
@@ -62,8 +63,7 @@ fn stream_total<R: Source, O: Output>(
     out: &mut O,
 ) -> Result<Streamed, AllocError>
     requires room { length window.old.text.items + window.old.left < 2 ^ 63 }
-    requires other { shows_lines page.now.options.now.mode ≡ false }
-    ensures text { IfOk result (StreamsText search.old search.new page.now (R.model input.old)
+    ensures text { IfOk result (StreamsTotal search.old search.new page.now (R.model input.old)
         window.old.text.items (O.given out.old) (O.given out.new)) }
     ensures failed { IfOk result (λ streamed.
         R.failed input.new ≡ count_if (is_failed streamed.ended) (R.failed input.old)) }
@@ -111,18 +111,11 @@ pub(crate) fn print_source<R: Source, O: Output>(
     }
 }
 
-/// Whether a text is left out, as one that is binary.
-fn is_left_out(binary: bool, text: &[u8]) -> bool
-    ensures { result ≡ (is_binary text.now && not binary) }
-{
-    is_binary(text) && !binary
-}
-
-/// Prints what is to be printed for a text that is read from a source. A binary text prints
-/// nothing, unless `binary` (`-a`). Its first bytes are enough to see that.
+/// Prints what is to be printed for a text that is read from a source. Its first bytes are enough
+/// to see whether it is binary.
 pub fn print_file<R: Source, O: Output>(
     page: &Page<'_>,
-    binary: bool,
+    binary: BinaryFiles,
     input: &mut R,
     window: &mut Window,
     search: &mut LineSearch<'_>,
@@ -130,6 +123,8 @@ pub fn print_file<R: Source, O: Output>(
 ) -> Result<Streamed, AllocError>
     ensures text { IfOk result (PrintsFile search.old search.new page.now binary (R.model input.old)
         (O.given out.old) (O.given out.new)) }
+    ensures found { IfOk result (FindsInFile search.old search.new page.now binary
+        (R.model input.old)) }
     ensures failed { IfOk result (λ streamed.
         R.failed input.new ≡ count_if (is_failed streamed.ended) (R.failed input.old)) }
     ensures same { KeepsSearch search.old search.new }
@@ -145,11 +140,12 @@ pub fn print_file<R: Source, O: Output>(
             });
         }
     }
-    if is_left_out(binary, &window.text) {
-        return Ok(Streamed {
+    match searched_as(binary, &window.text) {
+        BinaryFiles::WithoutMatch => Ok(Streamed {
             marked: false,
             ended: Ended::Whole,
-        });
+        }),
+        BinaryFiles::Binary => stream_total(page, input, window, search, out),
+        BinaryFiles::Text => print_source(page, input, window, search, out),
     }
-    print_source(page, input, window, search, out)
 }

@@ -1,7 +1,8 @@
 // The printing of the lines of a text that is in memory.
-ghost use Rattle.std.specs.Prelude.{◌≡◌, ◌++◌, ◌<◌, ◌+◌, ◌^◌, false, length, count_by, ◌≤◌, IfOk, OnOk, [], nat_lt};
+ghost use Rattle.std.specs.Prelude.{◌≡◌, ◌++◌, ◌<◌, ◌+◌, ◌^◌, false, length, count_by, ◌≤◌, IfOk, OnOk, [], nat_lt, codes, if◌then◌else◌};
+ghost use Rattle.cs_project.specs.Forms.{dyed};
 ghost use Rattle.cs_project.specs.Printing.{Prints};
-ghost use Rattle.cs_project.specs.Shown.{is_wanted, at_most, count_groups, count_of, following, has_groups, name_groups, wanted_count};
+ghost use Rattle.cs_project.specs.Shown.{is_wanted, at_most, binary_groups, count_groups, count_of, following, has_groups, line_gap, name_groups, wanted_count};
 ghost use Rattle.cs_match.specs.LastPart.{last_line};
 ghost use Rattle.cs_match.specs.Lines.{terminated_lines};
 ghost use Rattle.cs_match.specs.Skipping.{AreWholeLines};
@@ -132,6 +133,44 @@ impl Page<'_> {
         if here {
             self.print_name(b"\n", out)?;
         }
+        Ok(())
+    }
+
+    /// That the text is binary, if a line is marked.
+    pub(crate) fn print_binary<O: Output>(&self, here: bool, out: &mut O) -> Result<(), AllocError>
+        ensures { Prints (O.given out.old) (O.given out.new) (following (line_gap self.now.options.now)
+            self.now.begun (binary_groups self.now.options.now self.now.name.now here)) result }
+    {
+        if here {
+            self.print_binary_match(out)?;
+        }
+        Ok(())
+    }
+
+    /// That the text is binary and a line is marked, after what is between texts.
+    fn print_binary_match<O: Output>(&self, out: &mut O) -> Result<(), AllocError>
+        ensures { Prints (O.given out.old) (O.given out.new)
+            ((if self.now.begun then line_gap self.now.options.now else [])
+            ++ (dyed self.now.options.now.form (codes "35") self.now.name.now
+            ++ codes ": binary file matches\n")) result }
+    {
+        if self.begun {
+            self.print_between(out)?;
+        }
+        self.print_binary_line(out)?;
+        Ok(())
+    }
+
+    /// The line that says that the text is binary and matches.
+    fn print_binary_line<O: Output>(&self, out: &mut O) -> Result<(), AllocError>
+        ensures { Prints (O.given out.old) (O.given out.new)
+            (dyed self.now.options.now.form (codes "35") self.now.name.now
+            ++ codes ": binary file matches\n") result }
+    {
+        self.options
+            .form
+            .print_dyed(b"35", self.name.as_bytes(), out)?;
+        out.append(b": binary file matches\n")?;
         Ok(())
     }
 

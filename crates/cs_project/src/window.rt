@@ -47,7 +47,10 @@ pub struct Window {
 
 impl Window {
     /// A window without bytes.
-    pub fn new(alloc: Global) -> Result<Window, AllocError> {
+    pub fn new(alloc: Global) -> Result<Window, AllocError>
+        ensures text { IfOk result (λ window. window.text.items ≡ []) }
+        ensures left { IfOk result (λ window. window.left ≡ LONGEST) }
+    {
         let block = vec![in alloc; 0u8; BLOCK]?;
         Ok(Window {
             text: Vec::new(alloc),

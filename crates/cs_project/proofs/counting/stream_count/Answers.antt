@@ -1,4 +1,4 @@
-use Rattle.std.proofs.Common.{◌≡◌, ◌+◌, ◌++◌, [], ℕ, List, true, Option, None, Some, length, take, refl, sym, ap, subst, ◌∙◌, arith, append_assoc, append-nil, length-append}
+use Rattle.std.proofs.Common.{◌≡◌, ◌≤◌, ◌+◌, ◌++◌, [], ℕ, Bool, List, true, Option, None, Some, length, take, refl, sym, ap, subst, ◌∙◌, arith, append_assoc, append-nil, length-append}
 use Rattle.std.specs.List.{count_by}
 use Rattle.std.proofs.lemmas.Bool.{false≢true}
 use Rattle.std.proofs.lemmas.Bool.Decides.{nat_tests}
@@ -12,7 +12,7 @@ use Rattle.cs_project.specs.Streams.{is_whole}
 use Rattle.cs_project.specs.declared.form.ShowOptions.{ShowOptions}
 use Rattle.cs_project.specs.declared.search.LineSearch.{LineSearch}
 use Rattle.cs_project.proofs.FindingLemmas.{tests_same, keeps_again, keeps_itself}
-use Rattle.cs_project.proofs.StreamLemmas.{carries_here, carries_on, carries_end, carries_any, if_any, lines_part}
+use Rattle.cs_project.proofs.StreamLemmas.{carries_here, carries_on, carries_end, carries_any, lines_part}
 use Rattle.cs_project.proofs.counting.stream_count.Goals as goal
 
 enough : (most : Option ℕ) (count more : ℕ) → is_enough most count ≡ true → at_most most count ≡ at_most most (count + more)
@@ -73,6 +73,12 @@ pieces-preserved g c =
       keeps = g.met.R.Source.keeps_trans c.args.input.now c.pieces.input c.fill.new.input i.keeps f.keeps;
     }
 
+-- what is said of the number of wanted lines
+abbrev CountsAll : LineSearch → ShowOptions → Option ℕ → Bool → ℕ → List ℕ → List ℕ → Type 0
+CountsAll search options most whole count first all = (finding : Finding) → Tests finding.has_match search →
+    (whole ≡ true → at_most most count ≡ at_most most (wanted_count options finding (first ++ all)))
+    × (count ≤ wanted_count options finding (first ++ all))
+
 pub returns-then-is_enough-clause-count : goal.returns-then-is_enough-clause-count
 returns-then-is_enough-clause-count g c =
     let options = c.args.options.now in
@@ -80,19 +86,24 @@ returns-then-is_enough-clause-count g c =
     let text = c.count_window-count.new.window.text.items in
     carries_any (g.R.Source.model c.args.input.now) (g.R.Source.model c.pieces.input)
     (Counts c.args.options.now c.args.search.now c.args.window.now.text.items c.pieces.count c.pieces.window.text.items)
-    (λ all. true ≡ true → (finding : Finding) → Tests finding.has_match c.args.search.now →
-    at_most c.args.most count ≡ at_most c.args.most (wanted_count options finding (c.args.window.now.text.items ++ all)))
-    (λ all rest h _ finding tests.
-    enough c.args.most count (wanted_count options finding (text ++ rest)) (sym c.is_enough.ensures ∙ c.if-is_enough.true)
-    ∙ ap (at_most c.args.most) (sym (counted c.args.options.now c.args.search.now c.pieces.search c.args.window.now.text.items c.pieces.count c.count_window-count.result c.pieces.window.text.items c.count_window-count.new.window.text.items c.pieces.invariant.same c.count_window-count.ensures.count all rest h finding tests))) c.pieces.invariant.lines
+    (CountsAll c.args.search.now options c.args.most true count c.args.window.now.text.items)
+    (λ all rest h finding tests.
+    let is = counted c.args.options.now c.args.search.now c.pieces.search c.args.window.now.text.items c.pieces.count c.count_window-count.result c.pieces.window.text.items c.count_window-count.new.window.text.items c.pieces.invariant.same c.count_window-count.ensures.count all rest h finding tests in (
+      λ _. enough c.args.most count (wanted_count options finding (text ++ rest)) (sym c.is_enough.ensures ∙ c.if-is_enough.true) ∙ ap (at_most c.args.most) (sym is),
+      omega (arith, is),
+    )) c.pieces.invariant.lines
 
 pub returns-in-Err-clause-count : goal.returns-in-Err-clause-count
 returns-in-Err-clause-count g c =
     let count = c.pieces.count + c.count_window-count.result in
-    if_any (g.R.Source.model c.args.input.now)
-    (λ all. is_whole c.in_ok-ended-in-Err.ended ≡ true → (finding : Finding) → Tests finding.has_match c.args.search.now →
-    at_most c.args.most count ≡ at_most c.args.most (wanted_count c.args.options.now finding (c.args.window.now.text.items ++ all)))
-    (λ all whole. absurd (false≢true (sym c.in_ok-ended-in-Err.ensures.cut ∙ whole)))
+    carries_any (g.R.Source.model c.args.input.now) (g.R.Source.model c.pieces.input)
+    (Counts c.args.options.now c.args.search.now c.args.window.now.text.items c.pieces.count c.pieces.window.text.items)
+    (CountsAll c.args.search.now c.args.options.now c.args.most (is_whole c.in_ok-ended-in-Err.ended) count c.args.window.now.text.items)
+    (λ all rest h finding tests.
+    let is = counted c.args.options.now c.args.search.now c.pieces.search c.args.window.now.text.items c.pieces.count c.count_window-count.result c.pieces.window.text.items c.count_window-count.new.window.text.items c.pieces.invariant.same c.count_window-count.ensures.count all rest h finding tests in (
+      λ whole. absurd (false≢true (sym c.in_ok-ended-in-Err.ensures.cut ∙ whole)),
+      omega (arith, is),
+    )) c.pieces.invariant.lines
 
 pub returns-clause-count : goal.returns-clause-count
 returns-clause-count g c =
@@ -111,14 +122,13 @@ returns-clause-count g c =
     (Counts c.args.options.now c.args.search.now c.args.window.now.text.items c.pieces.count c.pieces.window.text.items) (Counts c.args.options.now c.args.search.now c.args.window.now.text.items count new) t.consumed
     (λ all rest h. more_read c.args.options.now c.args.search.now c.args.window.now.text.items (c.pieces.count + c.count_window-count.result) old t.bytes new t.text all rest (counted c.args.options.now c.args.search.now c.pieces.search c.args.window.now.text.items c.pieces.count c.count_window-count.result c.pieces.window.text.items c.count_window-count.new.window.text.items c.pieces.invariant.same c.count_window-count.ensures.count all (t.bytes ++ rest) h)) i.lines in
     carries_end (g.R.Source.model c.args.input.now) (g.R.Source.model c.fill.new.input) (Counts c.args.options.now c.args.search.now c.args.window.now.text.items count new)
-    (λ all. true ≡ true → (finding : Finding) → Tests finding.has_match c.args.search.now →
-    at_most c.args.most (count + c.last_count-count.result) ≡ at_most c.args.most (wanted_count options finding (c.args.window.now.text.items ++ all)))
+    (CountsAll c.args.search.now options c.args.most true (count + c.last_count-count.result) c.args.window.now.text.items)
     (t.end zero)
-    (λ all h _ finding tests.
+    (λ all h finding tests.
     let wanted = is_wanted options finding.has_match in
     let now = tests_same c.args.search.now c.count_window-count.new.search (keeps_again c.args.search.now c.pieces.search c.count_window-count.new.search i.same e.same)
     finding.has_match tests in
     let last : c.last_count-count.result ≡ wanted_count options finding (new ++ []) =
     c.last_count-count.ensures.count finding now ∙ ap (λ (x : List ℕ). count_by wanted (last_line x)) c.deref.ensures.value ∙ ap (count_by wanted) (sym (lines_part new part)) ∙ ap (wanted_count options finding) (sym (append-nil new)) in
-    ap (at_most c.args.most) (ap (λ n. count + n) last ∙ sym (h finding tests)))
+    let is = ap (λ n. count + n) last ∙ sym (h finding tests) in (λ _. ap (at_most c.args.most) is, omega (arith, is)))
     read

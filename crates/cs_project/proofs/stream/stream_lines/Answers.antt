@@ -12,7 +12,7 @@ use Rattle.cs_project.specs.Streams.{IsReady}
 use Rattle.cs_project.specs.declared.stream.Ended.TheVariants.{Whole}
 use Rattle.cs_project.proofs.FindingLemmas.{keeps_again, keeps_itself}
 use Rattle.cs_project.proofs.ScanLemmas.{rows_are_scanned}
-use Rattle.cs_project.proofs.StreamLemmas.{StillPrints, Streams, carries_here, carries_on, carries_end, carries_any, ready_more, begun_lines, whole_lines, all_begun, still_searched, still_more, all_searched, same_window}
+use Rattle.cs_project.proofs.StreamLemmas.{StillPrints, Streams, carries_here, carries_on, carries_end, carries_any, ready_more, begun_found, begun_lines, has_found, whole_lines, all_begun, still_searched, still_more, all_searched, same_window}
 use Rattle.cs_project.proofs.stream.stream_lines.Goals as goal
 
 none_of : terminated_lines [] ≡ []
@@ -99,6 +99,9 @@ returns-in-Err-clause-lines g c =
       begun_lines c.args.search.now search1 page first given rows1 given1 from old all rest
           (still_searched first page given c.args.search.now c.pieces.search search1 i.same e.same c.pieces.rows rows1 (g.O.Output.given c.pieces.out) given1
           c.pieces.from from c.pieces.window.text.items old e.rows all rest still),
+      begun_found c.args.search.now search1 page first given rows1 given1 from old all rest
+          (still_searched first page given c.args.search.now c.pieces.search search1 i.same e.same c.pieces.rows rows1 (g.O.Output.given c.pieces.out) given1
+          c.pieces.from from c.pieces.window.text.items old e.rows all rest still),
     )) i.lines
 
 pub search_rest-requires-clause-within : goal.search_rest-requires-clause-within
@@ -164,5 +167,6 @@ returns-clause-lines g c =
     c.deref.ensures.value c.in_ok-search_rest.ensures.rows all still in (
       λ _. whole_lines c.args.search.now search2 page first given rows2 given2 all printed,
       all_begun c.args.search.now search2 page first given rows2 given2 all printed,
+      has_found c.args.search.now search2 page (first ++ all) rows2.shown (whole_lines c.args.search.now search2 page first given rows2 given2 all printed).1,
     ))
     read

@@ -15,17 +15,17 @@ words-preserved g c =
     let end = c.args.listing.now.end.now in
     let given = g.O.Output.given c.args.out.now in
     let middle = g.O.Output.given c.words.out in
-    let later = g.O.Output.given c.list_word.new.out in
+    let later = g.O.Output.given c.list.new.out in
     let end' = c.words.listing.end.now in
-    let keeps = c.in_ok-list_word.ensures.same in
+    let keeps = c.in_ok-list.ensures.same in
     record {
-      kept = c.in_ok-list_word.ensures.keeps ∙ c.words.invariant.kept;
+      kept = c.in_ok-list.ensures.keeps ∙ c.words.invariant.kept;
       same = (keeps.0 ∙ c.words.invariant.same.0, λ right. c.words.invariant.same.1 (keeps.1 right));
       named = λ right. subst (λ ws. HasNamed tree chosen scope.folder.now ws (HasListed end given later))
           (sym (texts_more words at record { ref_ptr = (0, 0); now = [] } (omega (arith, c.words-test.true))))
           (named_more tree (g.T.Tree.snapshot c.words.tree) chosen scope.folder.now (texts (take at words))
           (get_or words at record { ref_ptr = (0, 0); now = [] }).now (HasListed end given middle) (HasListed end given later)
           (HasListed end' middle later) c.words.invariant.kept (c.words.invariant.named (keeps.1 right))
-          (c.in_ok-list_word.ensures.listed right)
+          (c.in_ok-list.ensures.listed right)
           (λ all more had has. lists_more end' end given middle later all more (ap (λ e. e.now) c.words.invariant.same.0) had has));
     }

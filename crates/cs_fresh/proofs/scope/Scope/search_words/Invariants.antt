@@ -1,7 +1,9 @@
 use Rattle.std.proofs.Common.{◌≡◌, take, false}
 use Rattle.cs_tree.specs.PathParts.{texts}
 use Rattle.cs_listing.specs.Models.{chosen_in}
+use Rattle.cs_fresh.specs.Knowledge.{HoldsAsBefore, HoldsFor}
 use Rattle.cs_fresh.specs.Searched.{KeepsForm, ShowsItems}
+use Rattle.cs_fresh.proofs.FoundLemmas.{HasFoundNamed}
 use Rattle.cs_fresh.proofs.ScopeLemmas.{HasNamed}
 use Rattle.cs_fresh.proofs.scope.Scope.search_words.Given as goal
 
@@ -10,7 +12,11 @@ abbrev pub invariant-words : goal.invariant-words
 invariant-words g l = record {
   kept : g.T.Tree.snapshot l.tree ≡ g.T.Tree.snapshot l.fn.tree;
   same : KeepsForm l.fn.search l.search;
-  named : l.search.reports.wrong ≡ false → HasNamed (g.T.Tree.snapshot l.fn.tree) (chosen_in l.self.choices.now) l.self.folder.now
+  holds : HoldsAsBefore (g.K.Knowledge.Holds l.fn.known) (g.K.Knowledge.Holds l.known);
+  named : HoldsFor (g.K.Knowledge.Holds l.fn.known) g.T.Look.stamps (g.T.Tree.snapshot l.fn.tree) l.fn.search →
+      l.search.reports.wrong ≡ false → HasNamed (g.T.Tree.snapshot l.fn.tree) (chosen_in l.self.choices.now) l.self.folder.now
       (texts (take l.word-index l.self.words.now))
       (λ named. ShowsItems l.fn.search l.search named (g.O.Output.given l.fn.out) (g.O.Output.given l.out));
+  found : HasFoundNamed (g.T.Tree.snapshot l.fn.tree) (chosen_in l.self.choices.now) l.self.folder.now (texts l.self.words.now)
+      l.fn.search l.search;
 }

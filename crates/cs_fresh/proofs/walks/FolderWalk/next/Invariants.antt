@@ -1,6 +1,6 @@
 use Rattle.std.proofs.Common.{◌≡◌, ◌≤◌, false}
 use Rattle.cs_listing.specs.Walk.{walk_weight}
-use Rattle.cs_fresh.proofs.WalkedLemmas.{HasLeft, walk_measure}
+use Rattle.cs_fresh.proofs.WalkedLemmas.{HasLeft, StillStamped, walk_measure}
 use Rattle.cs_fresh.proofs.walks.FolderWalk.next.Given as goal
 
 -- the same files are left
@@ -10,6 +10,7 @@ invariant-unread g l = record {
   form : l.self.form ≡ l.fn.self.form;
   weight : walk_weight l.self.walk ≤ walk_weight l.fn.self.walk;
   reported : l.reports.wrong ≡ false → l.fn.reports.wrong ≡ false;
+  stamped : StillStamped g.T.Look.stamps (g.T.Tree.snapshot l.fn.tree) l.fn.self.walk l.self.walk;
   left : HasLeft (g.T.Tree.snapshot l.fn.tree) l.fn.self.walk l.self.walk;
 }
 

@@ -1,6 +1,9 @@
 use Rattle.std.proofs.Common.{◌≡◌}
+use Rattle.cs_listing.specs.Stamps.{AreStamped, InStamps}
 use Rattle.cs_listing.specs.Walk.{walk_weight}
+use Rattle.cs_fresh.specs.Knowledge.{HoldsAsBefore, HoldsFor}
 use Rattle.cs_fresh.specs.Searched.{KeepsForm, ShowsItems}
+use Rattle.cs_fresh.proofs.FoundLemmas.{HasFound}
 use Rattle.cs_fresh.proofs.WalkedLemmas.{HasTaken}
 use Rattle.cs_fresh.proofs.walks.FolderWalk.search.Given as goal
 
@@ -10,8 +13,12 @@ invariant-files g l = record {
   kept : g.T.Tree.snapshot l.tree ≡ g.T.Tree.snapshot l.fn.tree;
   form : l.self.form ≡ l.fn.self.form;
   same : KeepsForm l.fn.search l.search;
+  stamped : InStamps (g.T.Tree.snapshot l.fn.tree) g.T.Look.stamps (λ stamps. AreStamped stamps l.self.walk);
+  holds : HoldsAsBefore (g.K.Knowledge.Holds l.fn.known) (g.K.Knowledge.Holds l.known);
   taken : HasTaken (g.T.Tree.snapshot l.fn.tree) l.fn.self l.self
-      (λ named. ShowsItems l.fn.search l.search named (g.O.Output.given l.fn.out) (g.O.Output.given l.out));
+      (λ named. HoldsFor (g.K.Knowledge.Holds l.fn.known) g.T.Look.stamps (g.T.Tree.snapshot l.fn.tree) l.fn.search →
+      ShowsItems l.fn.search l.search named (g.O.Output.given l.fn.out) (g.O.Output.given l.out));
+  found : HasFound (g.T.Tree.snapshot l.fn.tree) l.fn.self l.fn.search l.search;
 }
 
 abbrev pub decreases-files : goal.decreases-files

@@ -7,28 +7,28 @@ use Rattle.cs_fresh.specs.Walked.{IsWordPath}
 use Rattle.cs_fresh.proofs.FileLemmas.{on_ok}
 use Rattle.cs_fresh.proofs.ListedLemmas.{HasListed, lists_one}
 use Rattle.cs_fresh.proofs.ScopeLemmas.{file_named, folder_named}
-use Rattle.cs_fresh.proofs.scope.Scope.list_word.Goals as goal
+use Rattle.cs_fresh.proofs.places.ScopeWord.list.Goals as goal
 
 pub returns-in-Folder-clause-listed : goal.returns-in-Folder-clause-listed
 returns-in-Folder-clause-listed g c =
     let tree = g.T.Tree.snapshot c.args.tree.now in
-    let scope = c.args.self.now in
+    let scope = c.args.self.now.scope in
     let chosen = chosen_in scope.choices.now in
-    let word = c.args.word.now in
+    let word = c.args.self.now.word.now in
     let path = string_bytes c.in_ok-named.named.path in
-    let listed = HasListed c.args.listing.now.end.now (g.O.Output.given c.args.out.now) (g.O.Output.given c.list_folder.new.out) in
-    on_ok c.list_folder.result
+    let listed = HasListed c.args.listing.now.end.now (g.O.Output.given c.args.out.now) (g.O.Output.given c.list.new.out) in
+    on_ok c.list.result
     (λ has right. folder_named tree (g.T.Tree.snapshot c.named.new.tree) chosen scope.folder.now word path listed c.in_ok-named.ensures.keeps
     (subst (λ kind. InTree tree (λ items. IsWordPath items scope.folder.now word path kind)) c.in-Folder.is c.in_ok-named.ensures.named)
     (subst (λ p. InTree (g.T.Tree.snapshot c.named.new.tree) (λ items. ForItems (AreFilesBelow items chosen p word) listed))
-    c.as_str-path.ensures.value has))
-    c.list_folder.ensures.listed
+    c.as_str.ensures.value has))
+    c.list.ensures.listed
 
 pub returns-in-File-clause-listed : goal.returns-in-File-clause-listed
 returns-in-File-clause-listed g c = λ right.
     let tree = g.T.Tree.snapshot c.args.tree.now in
-    let scope = c.args.self.now in
-    let word = c.args.word.now in
+    let scope = c.args.self.now.scope in
+    let word = c.args.self.now.word.now in
     let path = string_bytes c.in_ok-named.named.path in
     let end = c.args.listing.now.end.now in
     let given = g.O.Output.given c.args.out.now in

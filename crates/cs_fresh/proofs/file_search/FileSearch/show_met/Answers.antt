@@ -1,0 +1,44 @@
+use Rattle.std.proofs.Common.{◌≡◌, [], ◌∷◌, false, subst}
+use Rattle.std.specs.Prelude.{string_bytes}
+use Rattle.cs_listing.specs.FolderReads.{InTree}
+use Rattle.cs_fresh.specs.Knowledge.{SkipsNothingShown}
+use Rattle.cs_fresh.specs.Searched.{ShowsItems}
+use Rattle.cs_fresh.specs.Sources.{FindsAmong}
+use Rattle.cs_fresh.proofs.FileLemmas.{on_ok}
+use Rattle.cs_fresh.proofs.KnowledgeLemmas.{skipped}
+use Rattle.cs_fresh.proofs.file_search.FileSearch.show_met.Goals as goal
+
+pub returns-then-branch-clause-shown : goal.returns-then-branch-clause-shown
+returns-then-branch-clause-shown g c = λ known.
+    let file = c.args.file.now in
+    let holds = g.K.Knowledge.Holds c.args.known.now in
+    skipped holds g.T.Look.stamps (g.T.Tree.snapshot c.args.tree.now) c.args.self.now (string_bytes file.name) (string_bytes file.path)
+    (g.O.Output.given c.args.out.now) file.stamp c.in_ok-skips.field-0
+    (subst (λ path. SkipsNothingShown holds path file.stamp c.in_ok-skips.field-0) c.as_str.ensures.value c.in_ok-skips.ensures.skips)
+    c.if-branch.true c.requires known
+
+pub returns-clause-shown : goal.returns-clause-shown
+returns-clause-shown g c =
+    let file = c.args.file.now in
+    let tree = g.T.Tree.snapshot c.args.tree.now in
+    let new = c.show_file.new.self in
+    let given = g.O.Output.given c.args.out.now in
+    let later = g.O.Output.given c.show_file.new.out in
+    on_ok c.show_file.result
+    (λ has known. subst (λ name. InTree tree (λ items. ShowsItems c.args.self.now new ((name, items (string_bytes file.path), false) ∷ []) given later))
+    c.as_str-3.ensures.value
+    (subst (λ path. InTree tree (λ items. ShowsItems c.args.self.now new ((c.as_str-3.result.now, items path, false) ∷ []) given later))
+    c.as_str-2.ensures.value has))
+    c.show_file.ensures.shown
+
+pub returns-clause-found : goal.returns-clause-found
+returns-clause-found g c =
+    let file = c.args.file.now in
+    let tree = g.T.Tree.snapshot c.args.tree.now in
+    let new = c.show_file.new.self in
+    on_ok c.show_file.result
+    (λ has. subst (λ name. InTree tree (λ items. FindsAmong c.args.self.now new (λ one. one ≡ (name, items (string_bytes file.path), false))))
+    c.as_str-3.ensures.value
+    (subst (λ path. InTree tree (λ items. FindsAmong c.args.self.now new (λ one. one ≡ (c.as_str-3.result.now, items path, false))))
+    c.as_str-2.ensures.value has))
+    c.show_file.ensures.found

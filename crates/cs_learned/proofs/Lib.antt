@@ -1,6 +1,4 @@
 mod Examples
-mod LineLemmas
-mod SkippedTextLemmas
-mod LearnedLemmas
 mod FreshLemmas
+mod KnownProjectLemmas
 mod UpdateLemmas

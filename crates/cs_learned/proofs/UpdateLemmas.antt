@@ -11,9 +11,9 @@ use Rattle.cs_trigram.specs.Text.{text_trigrams, limits}
 use Rattle.cs_index.specs.Encoding.{Files}
 use Rattle.cs_index.specs.OpenedParts.{Parts, files_in}
 use Rattle.cs_merge.proofs.MergeLemmas.{get-merge_files, old_under}
-use Rattle.cs_state.specs.Known.{Known, Kept, indexed, binary, apart, ProjectState}
-use Rattle.cs_learned.specs.Learned.{Run, ReadsAs, IsLearnedIn, IsLearned}
-use Rattle.cs_learned.specs.Updates.{IsListed, StaysKnown, IsReadAnew, Updates, UpdatesKeepLearned, LeftStatesAreLearned}
+use Rattle.cs_state.specs.Known.{IsListed, Known, Kept, indexed, binary, apart, ProjectState}
+use Rattle.cs_known.specs.Learned.{Run, ReadsAs, IsLearnedIn, IsLearned}
+use Rattle.cs_learned.specs.Updates.{StaysKnown, IsReadAnew, Updates, UpdatesKeepLearned, LeftStatesAreLearned}
 
 listed : (P : Known → Type 0) (one : Known) (known : List Known) → AllByRecursion P known → IsListed one known → P one
 listed P one [] all is = absurd is

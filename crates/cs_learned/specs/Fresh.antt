@@ -2,37 +2,36 @@
 --
 --     For any files, options and state, a search that skips files prints exactly what a search of every file as it is now
 --     prints, and has its status, if each file whose stamp an earlier run saw, and was old then, still reads as it read then.
-use Rattle.std.specs.Prelude.{◌≡◌, ℕ, Bool, true, not, List, filter, map}
-use Rattle.cs_tree.specs.Snapshot.{file}
-use Rattle.cs_trigram.specs.Query.{LosesNoLine}
+use Rattle.std.specs.Prelude.{◌≡◌, ℕ, Bool, not, List, filter, map}
 use Rattle.cs_trigram.specs.declared.queries.Query.{Query}
-use Rattle.cs_project.specs.Findings.{Finding, IsFoundBy}
-use Rattle.cs_project.specs.Project.{nothing_shown, text_shown}
+use Rattle.cs_project.specs.Findings.{Finding}
 use Rattle.cs_project.specs.declared.form.ShowOptions.{ShowOptions}
 use Rattle.cs_project.specs.declared.search.LineSearch.{LineSearch}
-use Rattle.cs_fresh.specs.Searched.{NamedItem, items_printed, are_marked}
+use Rattle.cs_fresh.specs.Searched.{NamedItem, are_marked, binary_as, items_printed}
 use Rattle.cs_state.specs.Known.{ProjectState}
-use Rattle.cs_learned.specs.Skipped.{View, is_skipped}
-use Rattle.cs_learned.specs.Learned.{Run, StillHolds}
+use Rattle.cs_known.specs.Skipped.{is_skipped}
+use Rattle.cs_known.specs.Learned.{Run, StillHolds, View}
+use Rattle.cs_known.specs.Unprinted.{IsQueryOf}
 
--- A file of a search: its name in the project, and the name that it is printed with.
+-- A file of a search: its name in the project, the name that it is printed with, and whether a word names it.
 pub record ListedFile : Type 0 where
   pub name : List ℕ
   pub printed : List ℕ
+  pub named : Bool
 
 -- the file as it is now
 abbrev pub item_now : View → ListedFile → NamedItem
-item_now now listed = (listed.printed, now.item listed.name)
+item_now now listed = (listed.printed, now.item listed.name, listed.named)
+
+-- the file is skipped, with the stamp that it has now
+abbrev pub is_left_out : ShowOptions → Bool → Query → ProjectState → View → ListedFile → Bool
+is_left_out options takes_binary query state now listed =
+    is_skipped options (binary_as takes_binary listed.named) query state listed.name (now.stamp listed.name)
 
 -- the files that are not skipped, as they are now
 abbrev pub items_read : ShowOptions → Bool → Query → ProjectState → View → List ListedFile → List NamedItem
 items_read options takes_binary query state now files =
-    map (item_now now) (filter (λ listed. not (is_skipped options takes_binary query state now listed.name)) files)
-
--- The query loses no line of the search, and the finding is that of the search.
-pub record IsQueryOf (search : LineSearch) (finding : Finding) (query : Query) : Type 0 where
-  pub found : IsFoundBy finding search
-  pub loses : LosesNoLine query search.matcher.tree
+    map (item_now now) (filter (λ listed. not (is_left_out options takes_binary query state now listed)) files)
 
 -- Whatever was printed before, the same is printed for both, and a line is marked in both or in none.
 abbrev pub PrintAlike : ShowOptions → Bool → Finding → List NamedItem → List NamedItem → Type 0
@@ -46,12 +45,3 @@ IsFresh = (options : ShowOptions) (takes_binary : Bool) (search : LineSearch) (f
     IsQueryOf search finding query →
     (runs : List Run) (state : ProjectState) (now : View) → StillHolds runs state now → (files : List ListedFile) →
     PrintAlike options takes_binary finding (items_read options takes_binary query state now files) (map (item_now now) files)
-
--- A file that is skipped can be read, and its text prints nothing, so no error is hidden.
-abbrev pub SkippedPrintNothing : Type 0
-SkippedPrintNothing = (options : ShowOptions) (takes_binary : Bool) (search : LineSearch) (finding : Finding) (query : Query) →
-    IsQueryOf search finding query →
-    (runs : List Run) (state : ProjectState) (now : View) → StillHolds runs state now → (name : List ℕ) →
-    is_skipped options takes_binary query state now name ≡ true →
-    (text : List ℕ) × (now.item name ≡ file text)
-    × ((printed : List ℕ) → text_shown options takes_binary finding printed text ≡ nothing_shown)

@@ -1,5 +1,4 @@
 -- Definitions that public contracts cite.
-pub mod Skipped
-pub mod Learned
 pub mod Fresh
 pub mod Updates
+pub mod KnownProjects

@@ -9,12 +9,8 @@ use Rattle.cs_index.specs.Encoding.{Files}
 use Rattle.cs_index.specs.OpenedParts.{files_in}
 use Rattle.cs_merge.specs.Content.{LieUnder}
 use Rattle.cs_merge.specs.Merge.{merge_files}
-use Rattle.cs_state.specs.Known.{Known, ProjectState, is_old}
-use Rattle.cs_learned.specs.Learned.{Run, ReadsAs, IsLearned}
-
-abbrev pub IsListed : Known → List Known → Type 0
-IsListed one [] = ⊥
-IsListed one (other ∷ known) = (one ≡ other) ⊎ IsListed one known
+use Rattle.cs_state.specs.Known.{IsListed, Known, ProjectState, is_old}
+use Rattle.cs_known.specs.Learned.{Run, ReadsAs, IsLearned}
 
 -- It was known before, and no path covers it.
 abbrev pub StaysKnown : Paths → List Known → Known → Type 0

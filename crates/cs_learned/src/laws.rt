@@ -1,21 +1,14 @@
 // Laws of the definitions. These functions do nothing.
-ghost use Rattle.cs_learned.specs.Fresh.{IsFresh, SkippedPrintNothing};
+ghost use Rattle.cs_learned.specs.Fresh.{IsFresh};
 ghost use Rattle.cs_learned.specs.Updates.{LeftStatesAreLearned, UpdatesKeepLearned};
 
-use cs_project::laws::lines_are_printed_if_marked;
-
-/// A file that is skipped can be read, and prints nothing.
-pub fn a_skipped_file_prints_nothing()
-    ensures { SkippedPrintNothing }
-{
-    lines_are_printed_if_marked();
-}
+use cs_known::laws::a_skipped_file_prints_nothing;
 
 /// A search over a state that earlier runs learned is a search of every file as it is now.
 pub fn a_search_is_fresh()
     ensures { IsFresh }
 {
-    lines_are_printed_if_marked();
+    a_skipped_file_prints_nothing();
 }
 
 /// An update keeps the premise of the next search.

@@ -1,15 +1,18 @@
 -- A written state has the form of a state file.
-use Rattle.std.proofs.Common.{◌≡◌, ◌∙◌, ℕ, zero, suc, ◌+◌, ◌-◌, ◌*◌, ◌<◌, ◌≤◌, List, ◌++◌, length, take, drop, append_assoc, refl, sym, ap, arith, length-append}
+use Rattle.std.proofs.Common.{◌≡◌, ◌∙◌, ℕ, zero, suc, ◌+◌, ◌-◌, ◌*◌, ◌<◌, ◌≤◌, ◌^◌, List, ◌++◌, length, take, drop, append_assoc, refl, sym, ap, arith, length-append}
+use Rattle.std.specs.Int.{from_be_bytes, w64}
 use Rattle.std.specs.List.{flat_map}
 use Rattle.std.proofs.lemmas.List.{take_all}
+use Rattle.std.proofs.lemmas.Nat.{from_be_bytes-to_be_bytes_8}
 use Rattle.std.proofs.Math.Seq.{drop-append_seam}
 use Rattle.cs_tree.specs.Store.{part_of}
 use Rattle.cs_tree.specs.declared.look.Stamp.{Stamp}
 use Rattle.cs_state.specs.Known.{Known}
 use Rattle.cs_state.specs.StateFile.{body_of, eight_bytes, other_bytes, stamp_bytes, state_bytes, state_magic, with_end}
-use Rattle.cs_state.specs.StateLengths.{HasForm}
+use Rattle.cs_state.specs.StateLengths.{AreLengths, HasForm}
 use Rattle.cs_state.specs.Sums.{piece_count, piece_len, sum_bytes, sums_of, sums_within}
 use Rattle.cs_state.specs.WrittenForm.{lengths_of}
+use Rattle.cs_state.specs.declared.state_lengths.StateLengths.{StateLengths}
 
 sum_len : (piece : List ℕ) → length (sum_bytes piece) ≡ 8
 unfolding sum_bytes
@@ -42,10 +45,10 @@ module _ (index : List ℕ) (stamps : List Stamp) (others : List Known) where
   abbrev body : List ℕ
   body = body_of index stamps others
 
-  abbrev end : List ℕ
+  abbrev pub end : List ℕ
   end = eight_bytes (length index) ++ eight_bytes (length (flat_map stamp_bytes stamps)) ++ state_magic
 
-  grouped : state_bytes index stamps others ≡ (body ++ sums_of body) ++ end
+  pub grouped : state_bytes index stamps others ≡ (body ++ sums_of body) ++ end
   unfolding with_end
   grouped =
       let x = eight_bytes (length index) in
@@ -72,3 +75,39 @@ module _ (index : List ℕ) (stamps : List Stamp) (others : List Known) where
           within = omega (arith, p, q);
         };
       }
+
+-- ---- lengths
+
+-- eight bytes have one number
+pub eight_same : (a b : ℕ) → a < 18446744073709551616 → b < 18446744073709551616 → eight_bytes a ≡ eight_bytes b → a ≡ b
+unfolding eight_bytes
+eight_same a b small short same =
+    sym (from_be_bytes-to_be_bytes_8 a small) ∙ ap (from_be_bytes w64) same ∙ from_be_bytes-to_be_bytes_8 b short
+
+first_eight : (a b : ℕ) → take 8 (eight_bytes a ++ eight_bytes b ++ state_magic) ≡ eight_bytes a
+unfolding eight_bytes
+first_eight a b = refl
+
+next_eight : (a b : ℕ) → take 8 (drop 8 (eight_bytes a ++ eight_bytes b ++ state_magic)) ≡ eight_bytes b
+unfolding eight_bytes
+next_eight a b = refl
+
+same_lengths : (end : List ℕ) (room : ℕ) (one other : StateLengths) → room < 4294967296 → AreLengths end room one → AreLengths end room other →
+    one ≡ other
+same_lengths end room one other short a b =
+    let s = a.sums in
+    let t = b.sums in
+    let body : one.body ≡ other.body = omega (arith, s, t) in
+    let in_one = a.within in
+    let in_other = b.within in
+    let ends = sym a.end_is ∙ b.end_is in
+    let index = eight_same one.index other.index (omega (arith, s, in_one, short)) (omega (arith, t, in_other, short))
+    (sym (first_eight one.index one.stamps) ∙ ap (take 8) ends ∙ first_eight other.index other.stamps) in
+    let stamps = eight_same one.stamps other.stamps (omega (arith, s, in_one, short)) (omega (arith, t, in_other, short))
+    (sym (next_eight one.index one.stamps) ∙ ap (λ l. take 8 (drop 8 l)) ends ∙ next_eight other.index other.stamps) in
+    λ i. record { index = index i; stamps = stamps i; body = body i }
+
+pub one_form : (bytes : List ℕ) (one other : StateLengths) → HasForm bytes one → HasForm bytes other → one ≡ other
+one_form bytes one other a b =
+    let short = a.short in
+    same_lengths (part_of bytes (length bytes - 33) 33) (length bytes - 33) one other (omega (arith, short)) a.lengths_are b.lengths_are

@@ -1,7 +1,7 @@
 mod Examples
-mod FormLemmas
+pub mod FormLemmas
 mod OpeningLemmas
-mod OtherLemmas
+pub mod OtherLemmas
 mod StoreLemmas
 mod SumLemmas
 mod WindowLemmas

@@ -61,11 +61,11 @@ split_nul bytes k within is =
 
 -- ---- a file
 
-stamp_len : (stamp : Stamp) → length (stamp_bytes stamp) ≡ 40
+pub stamp_len : (stamp : Stamp) → length (stamp_bytes stamp) ≡ 40
 unfolding stamp_bytes eight_bytes
 stamp_len stamp = refl
 
-other_parts : (known : Known) (rest : List ℕ) → other_bytes known ++ rest ≡ known.name ++ 0 ∷ kept_byte known.kept ∷ (stamp_bytes known.stamp ++ rest)
+pub other_parts : (known : Known) (rest : List ℕ) → other_bytes known ++ rest ≡ known.name ++ 0 ∷ kept_byte known.kept ∷ (stamp_bytes known.stamp ++ rest)
 unfolding other_bytes
 other_parts known rest = append_assoc known.name (0 ∷ kept_byte known.kept ∷ stamp_bytes known.stamp) rest
 

@@ -1,5 +1,5 @@
 -- What earlier runs learned of the files of a project.
-use Rattle.std.specs.Prelude.{ℕ, Bool, ◌+◌, ◌&&◌, nat_eq, nat_lt, List}
+use Rattle.std.specs.Prelude.{◌≡◌, ◌⊎◌, ℕ, Bool, ◌+◌, ◌&&◌, nat_eq, nat_lt, List, [], ◌∷◌}
 use Rattle.cs_tree.specs.declared.look.Stamp.{Stamp}
 use Rattle.cs_index.specs.OpenedParts.{Parts}
 
@@ -28,6 +28,11 @@ pub record Known : Type 0 where
   pub name : List ℕ
   pub stamp : Stamp
   pub kept : Kept
+
+-- the file is one of these
+abbrev pub IsListed : Known → List Known → Type 0
+IsListed one [] = ⊥
+IsListed one (other ∷ known) = (one ≡ other) ⊎ IsListed one known
 
 -- The parts of the index of a project, and each file that is known.
 pub record ProjectState : Type 0 where

@@ -16,6 +16,11 @@ indexed_files _ _ = []
 abbrev pub IsOther : Known → Type 0
 IsOther known = IsString known.name × (known.kept ≢ indexed)
 
+-- the numbers of a stamp have eight bytes
+abbrev pub HasNumbers : Stamp → Type 0
+HasNumbers stamp =
+    (stamp.device < 2 ^ 64) × (stamp.inode < 2 ^ 64) × (stamp.size < 2 ^ 64) × (stamp.modified < 2 ^ 64) × (stamp.changed < 2 ^ 64)
+
 -- The bytes are this state: the index has its parts, with a stamp for each name, and the other files follow.
 pub record IsState (bytes : List ℕ) (state : ProjectState) : Type 0 where
   pub index : List ℕ
@@ -24,6 +29,7 @@ pub record IsState (bytes : List ℕ) (state : ProjectState) : Type 0 where
   pub decodes : DecodesAs index state.parts
   pub count : length stamps ≡ length state.parts.names
   pub each_other : AllByRecursion IsOther others
+  pub each_stamp : AllByRecursion (λ one. HasNumbers one.stamp) state.known
   pub known : state.known ≡ indexed_files state.parts.names stamps ++ others
   pub bytes_are : bytes ≡ state_bytes index stamps others
   pub short : length bytes < 2 ^ 32

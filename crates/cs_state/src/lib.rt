@@ -10,7 +10,7 @@
 //! bytes before the sums, as a store: a piece is tested when a byte of it is read, and not again
 //! while the next reads are in it. `FirstBytes` of these are the index, which `StoredIndex` of
 //! `cs_index` reads as an index in a file of its own; so each byte of it that is read was tested.
-//! `StateFile::open` does these steps. It does not test that there are as many stamps as names.
+//! `StateFile::open` does these steps, and tests that there are as many stamps as names.
 //!
 //! *Reading.* A `StampReader` reads stamps by the ids of their names, and an `OtherReader` the
 //! other files one after another, each through a window. Both read any store. They need

@@ -9,7 +9,7 @@ use crate::window::StoreWindow;
 use cs_tree::{IoFault, Stamp, Store};
 use std::alloc::Global;
 
-const STAMP_LEN: usize = 40;
+pub(crate) const STAMP_LEN: usize = 40;
 
 /// The number of bytes that a read asks for: 400 stamps.
 const STAMPS_LEN: usize = 16_000;

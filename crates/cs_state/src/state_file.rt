@@ -1,9 +1,11 @@
 // An open state file.
 ghost use Rattle.std.specs.Prelude.{◌≡◌, ℕ, List, Some, IfOk, IfSome};
 ghost use Rattle.cs_state.specs.OpenedStates.{HasIndex};
+ghost use Rattle.cs_state.specs.StateLengths.{AreWithin};
 
 use crate::first_bytes::FirstBytes;
 use crate::opening::read_lengths;
+use crate::stamps::STAMP_LEN;
 use crate::state_lengths::StateLengths;
 use crate::summed_bytes::SummedBytes;
 use cs_index::StoredIndex;
@@ -21,9 +23,10 @@ pub struct StateFile<S: Store> {
 
 impl<S: Store + Drop> StateFile<S> {
     /// Opens a state file. None if it does not have the form of one, if a sum or the index is
-    /// wrong, or if a read of the index fails.
+    /// wrong, if there is not a stamp for each name, or if a read of the index fails.
     pub fn open(alloc: Global, mut store: S) -> Result<Option<StateFile<S>>, IoFault>
-        ensures { (bytes : List ℕ) → S.model store ≡ Some bytes →
+        ensures within { IfOk result (λ found. IfSome found (λ file. AreWithin file.lengths)) }
+        ensures index { (bytes : List ℕ) → S.model store ≡ Some bytes →
             IfOk result (λ found. IfSome found (λ file. HasIndex bytes
             (⟦<FirstBytes<SummedBytes<S>> as Store>⟧.model file.bytes) file.lengths file.index)) }
     {
@@ -32,14 +35,18 @@ impl<S: Store + Drop> StateFile<S> {
         };
         let summed = SummedBytes::new(alloc, store, lengths.body);
         let mut bytes = FirstBytes::new(summed, lengths.index);
-        match StoredIndex::open(alloc, &mut bytes) {
-            Ok(Ok(index)) => Ok(Some(StateFile {
-                lengths,
-                index,
-                bytes,
-            })),
-            Err(IoFault::Memory) => Err(IoFault::Memory),
-            _ => Ok(None),
+        let index = match StoredIndex::open(alloc, &mut bytes) {
+            Ok(Ok(index)) => index,
+            Err(IoFault::Memory) => return Err(IoFault::Memory),
+            _ => return Ok(None),
+        };
+        if lengths.stamps != STAMP_LEN * index.name_count() as usize {
+            return Ok(None);
         }
+        Ok(Some(StateFile {
+            lengths,
+            index,
+            bytes,
+        }))
     }
 }

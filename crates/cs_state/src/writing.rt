@@ -5,7 +5,7 @@ ghost use Rattle.cs_state.specs.Known.{Known};
 ghost use Rattle.cs_state.specs.Others.{other_of};
 ghost use Rattle.cs_state.specs.StateFile.{body_of, eight_bytes, stamp_bytes, state_bytes};
 ghost use Rattle.cs_state.specs.StateWriters.{Appends, HasWritten};
-ghost use Rattle.cs_state.specs.SummedOutputs.{IsSummed, bytes_given};
+ghost use Rattle.cs_state.specs.SummedOutputs.{IsSummedIfWhole, bytes_given};
 
 use crate::others::Unindexed;
 use crate::state_writer::StateWriter;
@@ -20,19 +20,6 @@ const STAMP_LEN: u64 = 40;
 pub(crate) const MAGIC: &[u8] = b"codesearch state1";
 
 impl<O: Output> StateWriter<O> {
-    /// A writer after an index.
-    pub fn new(out: SummedOutput<O>) -> StateWriter<O>
-        requires { IsSummed O.given out }
-        ensures { HasWritten O.given result (bytes_given O.given out) [] [] }
-    {
-        let index_len = out.len;
-        StateWriter {
-            out,
-            index_len,
-            stamps_len: 0,
-        }
-    }
-
     /// Writes the stamp of the next name of the index.
     pub fn stamp(&mut self, stamp: &Stamp) -> Result<(), AllocError>
         ensures { (index : List ℕ) (stamps : List Stamp) → HasWritten O.given self.old index stamps [] →
@@ -79,6 +66,22 @@ impl<O: Output> StateWriter<O> {
 }
 
 impl<O: Output + Drop> StateWriter<O> {
+    /// A writer after an index. Fails if an append of it failed.
+    pub fn new(out: SummedOutput<O>) -> Result<StateWriter<O>, AllocError>
+        requires { IsSummedIfWhole O.given out }
+        ensures { IfOk result (λ writer. HasWritten O.given writer (bytes_given O.given out) [] []) }
+    {
+        if !out.whole {
+            return Err(AllocError);
+        }
+        let index_len = out.len;
+        Ok(StateWriter {
+            out,
+            index_len,
+            stamps_len: 0,
+        })
+    }
+
     /// Appends the sums, the lengths and the magic, and gives the output back.
     pub fn finish(self) -> Result<O, AllocError>
         ensures { (index : List ℕ) (stamps : List Stamp) (others : List Known) →

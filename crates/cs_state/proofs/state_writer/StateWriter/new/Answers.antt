@@ -4,10 +4,11 @@ use Rattle.cs_state.proofs.state_writer.StateWriter.new.Goals as goal
 
 pub returns : goal.returns
 returns g c =
+    let summed = c.requires (search rules) in
     let all = bytes_given g.O.Output.given c.args.out in
     record {
       bytes = sym (append-nil all) ∙ sym (append-nil _);
-      summed = λ whole. c.requires;
-      index_len = c.requires.len;
+      summed = c.requires;
+      index_len = summed.len;
       stamps_len = search rules;
     }

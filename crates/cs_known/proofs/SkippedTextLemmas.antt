@@ -1,5 +1,5 @@
 -- What is printed for a text that the query does not match, and for a binary one, is nothing.
-use Rattle.std.proofs.Common.{◌≡◌, ℕ, ◌+◌, Bool, true, false, not, ◌&&◌, cond, if◌then◌else◌, nat_lt, List, [], ◌∷◌, refl, sym, ap, ◌∙◌, arith, Option, Some, None}
+use Rattle.std.proofs.Common.{◌≡◌, ℕ, ◌+◌, Bool, true, false, not, cond, if◌then◌else◌, nat_lt, List, [], ◌∷◌, refl, sym, ap, ◌∙◌, arith, Option, Some, None}
 use Rattle.std.specs.Prelude.{count_by}
 use Rattle.std.specs.List.{AllByRecursion}
 use Rattle.std.proofs.lemmas.Bool.{true≢false, or_parts}
@@ -10,14 +10,16 @@ use Rattle.cs_trigram.specs.Trigram.{tri, has}
 use Rattle.cs_trigram.specs.Query.{matches_set, HasTrigrams, LosesNoLine}
 use Rattle.cs_trigram.specs.declared.queries.Query.{Query}
 use Rattle.cs_project.specs.Findings.{Finding, Tests}
-use Rattle.cs_project.specs.Project.{nothing_shown, text_shown}
-use Rattle.cs_project.specs.Shown.{at_most, count_bytes, count_of, groups_by, has_groups, is_binary, is_wanted, line_groups, name_groups, text_groups, text_rows}
+use Rattle.cs_project.specs.Project.{nothing_shown, searched_as, shown_as, text_shown}
+use Rattle.cs_project.specs.Shown.{at_most, binary_groups, count_bytes, count_of, groups_by, has_groups, is_binary, is_wanted, line_groups, name_groups, text_rows, total_groups}
 use Rattle.cs_project.specs.declared.form.Mode.{Mode}
 use Rattle.cs_project.specs.declared.form.Mode.TheVariants.{Lines, Counts, Names, Others}
+use Rattle.cs_project.specs.declared.binary.BinaryFiles.{BinaryFiles}
+use Rattle.cs_project.specs.declared.binary.BinaryFiles.TheVariants.{WithoutMatch, Binary, Text}
 use Rattle.cs_project.specs.declared.form.ShowOptions.{ShowOptions}
 use Rattle.cs_project.specs.declared.search.LineSearch.{LineSearch}
-use Rattle.cs_learned.specs.Skipped.{lists_others, prints_unmatched}
-use Rattle.cs_learned.proofs.LineLemmas.{lines_known}
+use Rattle.cs_known.specs.Skipped.{leaves_out, lists_others, prints_unmatched}
+use Rattle.cs_known.proofs.LineLemmas.{lines_known}
 
 -- the law of cs_project that lines are printed if and only if one is marked
 abbrev pub LinesPrintedIfMarked : Type 0
@@ -77,40 +79,37 @@ module _ (law : LinesPrintedIfMarked) (options : ShowOptions) (finding : Finding
   groups_none Names e = ap (name_groups options name) none
   groups_none Others e = absurd (true≢false e)
 
-  unmarked_shows_nothing : (takes_binary : Bool) → lists_others options.mode ≡ false →
-      text_shown options takes_binary finding name text ≡ nothing_shown
-  unmarked_shows_nothing takes_binary e =
-      ap (λ (groups : List (List ℕ)). if is_binary text && not takes_binary then nothing_shown else record {
-        groups = groups;
-        errors = [];
-        marked = nat_lt 0 (count_of options finding text);
-      }) (groups_none options.mode e)
-      ∙ ap (λ (marked : Bool). if is_binary text && not takes_binary then nothing_shown else record {
-        groups = [];
-        errors = [];
-        marked = marked;
-      }) none
-      ∙ either_way (is_binary text && not takes_binary)
-    where
-      either_way : (b : Bool) → (if b then nothing_shown else nothing_shown) ≡ nothing_shown
-      either_way true = refl
-      either_way false = refl
+  totals_none : (mode : Mode) → lists_others mode ≡ false → total_groups options name mode (count_of options finding text) ≡ []
+  totals_none Lines e = ap (binary_groups options name) none
+  totals_none Counts e = groups_none Counts e
+  totals_none Names e = groups_none Names e
+  totals_none Others e = absurd (true≢false e)
 
-pub binary_shows_nothing : (options : ShowOptions) (takes_binary : Bool) (finding : Finding) (name text : List ℕ) →
-    is_binary text ≡ true → takes_binary ≡ false → text_shown options takes_binary finding name text ≡ nothing_shown
-binary_shows_nothing options takes_binary finding name text is off =
-    ap (λ (left_out : Bool). if left_out then nothing_shown else record {
-      groups = text_groups options finding name text;
-      errors = [];
-      marked = nat_lt 0 (count_of options finding text);
-    }) (ap (λ (b : Bool). b && not takes_binary) is ∙ ap not off)
+  unmarked_shows_nothing : (binaries : BinaryFiles) → lists_others options.mode ≡ false →
+      text_shown options finding name binaries text ≡ nothing_shown
+  unmarked_shows_nothing binaries e = by_kind (searched_as binaries text)
+    where
+      by_kind : (kind : BinaryFiles) → shown_as options finding name kind text ≡ nothing_shown
+      by_kind WithoutMatch = refl
+      by_kind Binary = λ i. record { groups = totals_none options.mode e i; marked = none i }
+      by_kind Text = λ i. record { groups = groups_none options.mode e i; marked = none i }
+
+pub binary_shows_nothing : (options : ShowOptions) (binaries : BinaryFiles) (finding : Finding) (name text : List ℕ) →
+    is_binary text ≡ true → leaves_out binaries ≡ true → text_shown options finding name binaries text ≡ nothing_shown
+binary_shows_nothing options binaries finding name text is out =
+    ap (λ (binary : Bool). shown_as options finding name (if binary then binaries else Text) text) is ∙ by_kind binaries out
+  where
+    by_kind : (kind : BinaryFiles) → leaves_out kind ≡ true → shown_as options finding name kind text ≡ nothing_shown
+    by_kind WithoutMatch e = refl
+    by_kind Binary e = absurd (true≢false (sym e))
+    by_kind Text e = absurd (true≢false (sym e))
 
 -- a text whose trigrams the query does not match, except with -v and -L
-pub unmatched_shows_nothing : LinesPrintedIfMarked → (options : ShowOptions) (takes_binary : Bool) (search : LineSearch)
+pub unmatched_shows_nothing : LinesPrintedIfMarked → (options : ShowOptions) (binaries : BinaryFiles) (search : LineSearch)
     (finding : Finding) (query : Query) → Tests finding.has_match search → LosesNoLine query search.matcher.tree → (text : List ℕ) →
     matches_set query (has (tri text)) ≡ false → prints_unmatched options ≡ false → (name : List ℕ) →
-    text_shown options takes_binary finding name text ≡ nothing_shown
-unmatched_shows_nothing law options takes_binary search finding query tests loses text out silent name =
+    text_shown options finding name binaries text ≡ nothing_shown
+unmatched_shows_nothing law options binaries search finding query tests loses text out silent name =
     let plain = or_parts options.invert (lists_others options.mode) silent in
     unmarked_shows_nothing law options finding name text
-    (none_marked search finding query tests loses (has (tri text)) out options plain.0 text (lines_known text)) takes_binary plain.1
+    (none_marked search finding query tests loses (has (tri text)) out options plain.0 text (lines_known text)) binaries plain.1

@@ -9,7 +9,11 @@ use Rattle.cs_trigram.specs.Text.{text_trigrams, limits}
 use Rattle.cs_index.specs.OpenedParts.{Parts, files_in}
 use Rattle.cs_project.specs.Shown.{is_binary}
 use Rattle.cs_state.specs.Known.{Known, Kept, indexed, binary, apart, ProjectState, is_old}
-use Rattle.cs_learned.specs.Skipped.{View}
+
+-- What a run sees at each name of a project: the item, and its stamp, if it is a file that has one.
+pub record View : Type 0 where
+  pub item : List ℕ → Item
+  pub stamp : List ℕ → Option Stamp
 
 -- A run: what it saw, and its moment, at which it had read nothing yet.
 pub record Run : Type 0 where

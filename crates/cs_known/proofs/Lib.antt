@@ -1,0 +1,9 @@
+mod Examples
+mod LineLemmas
+mod SkippedTextLemmas
+mod LearnedLemmas
+mod UnprintedLemmas
+mod IndexedLemmas
+mod OtherFileLemmas
+mod StateLemmas
+mod SkipLemmas

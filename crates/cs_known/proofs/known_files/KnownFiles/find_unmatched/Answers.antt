@@ -1,0 +1,24 @@
+use Rattle.std.proofs.Common.{◌≡◌, ◌∙◌, false, ap, rules, subst, sym}
+use Rattle.cs_trigram.specs.Trigram.{Ascends, has}
+use Rattle.cs_index.specs.Candidates.{candidates_of}
+use Rattle.cs_known.proofs.IndexedLemmas.{candidates_ascend, no_candidate}
+use Rattle.cs_known.proofs.UnprintedLemmas.{not_of}
+use Rattle.cs_known.proofs.known_files.KnownFiles.find_unmatched.Goals as goal
+
+pub returns-clause-unmatched : goal.returns-clause-unmatched
+returns-clause-unmatched g c query state was plain out =
+    let name = c.args.name.now in
+    let here = c.in_ok-reach.ensures.at was.index was.body query state was.index_is was.indexed (search rules) in
+    let read = c.in_ok-reach.ensures.reads was.index was.body query state was.index_is was.indexed in
+    let stamped = c.in_ok-has_stamp.ensures in
+    let listed = stamped.known was.index was.body name query state was.body_is read here.0 (search rules) in
+    let last = stamped.reads was.index was.body query state was.body_is read in
+    let id = c.has_stamp.new.self.id in
+    let ascend = subst Ascends (sym last.candidates) (candidates_ascend state.parts query) in
+    let none : has (candidates_of state.parts query) id ≡ false =
+    ap (λ xs. has xs id) (sym last.candidates) ∙ sym (c.is_candidate.ensures ascend) ∙ not_of c.is_candidate.result out in (
+      plain,
+      listed,
+      no_candidate state.parts query c.reach.new.self.id name here.0 here.1
+          (subst (λ k. has (candidates_of state.parts query) k ≡ false) stamped.id none),
+    )

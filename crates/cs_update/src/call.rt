@@ -1,0 +1,14 @@
+// What a run learns.
+use crate::seen::SeenFile;
+use std::alloc::Global;
+
+/// Files below a root, and the moment of the run.
+#[derive(Drop)]
+pub struct UpdateCall<'a> {
+    pub alloc: Global,
+    /// The file at a name has this path before the name.
+    pub root: &'a str,
+    pub files: &'a [SeenFile],
+    /// In nanoseconds since 1970. No file was read before.
+    pub moment: u64,
+}

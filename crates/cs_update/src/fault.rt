@@ -1,0 +1,37 @@
+// Why files are not learned.
+ghost use Rattle.std.specs.Prelude.{◌≡◌};
+ghost use Rattle.cs_update.specs.declared.fault.UpdateFault.TheVariants.{Memory};
+
+use std::alloc::{AllocError, AllocFailed};
+use thiserror::Error;
+
+/// Why files are not learned.
+#[derive(Clone, Copy, Debug, PartialEq, Eq, Drop, Error)]
+pub enum UpdateFault {
+    /// A name does not begin with a slash, has a NUL, or, of a text, is not above the text before;
+    /// or the paths are not those of an index.
+    #[error("bad name")]
+    BadName,
+    /// There are more texts than an index can have.
+    #[error("too large")]
+    TooLarge,
+    /// An allocation failed.
+    #[error("out of memory")]
+    Memory,
+}
+
+impl From<AllocError> for UpdateFault {
+    ghost from_gives = { λ _ fault. fault ≡ Memory };
+
+    fn from(_refused: AllocError) -> UpdateFault {
+        UpdateFault::Memory
+    }
+}
+
+impl<T: Drop> From<AllocFailed<T>> for UpdateFault {
+    ghost from_gives = { λ _ fault. fault ≡ Memory };
+
+    fn from(_refused: AllocFailed<T>) -> UpdateFault {
+        UpdateFault::Memory
+    }
+}

@@ -23,7 +23,7 @@ CONTRACTS = [
     ("cindex_stored", "cs_cindex/src/job.rt", [], None),
     ("run", "codesearch/src/running.rt", [], 2600),
     ("execute", "codesearch/src/execution.rt", [], 2700),
-    ("run_project", "cs_fresh/src/answer.rt", [], 2900),
+    ("run_project", "cs_fresh/src/answer.rt", [], 3100),
 ]
 
 # the files of the traits

@@ -35,7 +35,7 @@ pub mod SettingLemmas
 pub mod StarLemmas
 pub mod EndLemmas
 pub mod LastElementLemmas
-pub mod RuleKeyLemmas
-mod RuleKeyExamples
+pub mod MarkLemmas
+mod MarkExamples
 pub mod TypeLemmas
 mod UnreadExamples

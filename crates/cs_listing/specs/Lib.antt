@@ -27,5 +27,5 @@ pub mod WholeWalks
 -- Definitions that only private contracts cite.
 pub mod Matching
 pub mod Reading
-pub mod RuleKeys
+pub mod Marks
 pub mod SettingReads

@@ -81,10 +81,18 @@ pub(crate) fn child_path(alloc: Global, stem: &str, name: &str) -> Result<String
     ensures { IfOk result (λ path. string_bytes path ≡ entry_path stem.now name.now) }
 {
     let mut path = String::with_capacity(alloc, stem.len() + 1 + name.len())?;
+    set_child_path(&mut path, stem, name)?;
+    Ok(path)
+}
+
+/// Makes a text the path of an entry. It keeps its room, so that the next one allocates nothing.
+fn set_child_path(path: &mut String, stem: &str, name: &str) -> Result<(), AllocError>
+    ensures { OnOk result (string_bytes path.new ≡ entry_path stem.now name.now) }
+{
+    path.clear();
     path.push_str(stem)?;
     path.push('/')?;
-    path.push_str(name)?;
-    Ok(path)
+    path.push_str(name)
 }
 
 /// The path of a folder.
@@ -369,21 +377,24 @@ impl FolderReader {
         ensures keeps { T.snapshot tree.new ≡ T.snapshot tree.old }
     {
         let mut path = place.layers.names(self.alloc)?;
+        let mut at = String::new(self.alloc);
         let mut entries = Vec::new(self.alloc);
         'names: for name in names {
-            let entry = self.entry(tree, place, &mut path, name.as_str())?;
+            let entry = self.entry(tree, place, &mut path, &mut at, name.as_str())?;
             push_if_some(&mut entries, entry)?;
         }
         order_entries(&mut entries);
         Ok(entries)
     }
 
-    /// The entry with this name, if it is taken. The path is that of the folder.
+    /// The entry with this name, if it is taken. The path is that of the folder, and the text is
+    /// room for that of the entry.
     fn entry<'n, T: Look>(
         &mut self,
         tree: &mut T,
         place: &Place<'_>,
         path: &mut Vec<&'n [u8]>,
+        at: &mut String,
         name: &'n str,
     ) -> Result<Option<Entry>, AllocError>
         requires deepest { length (folders_in place.now.layers.now) ≡ length path.old.items + 1 }
@@ -398,7 +409,7 @@ impl FolderReader {
         ensures keeps { T.snapshot tree.new ≡ T.snapshot tree.old }
     {
         path.push(name.as_bytes())?;
-        let at = child_path(self.alloc, place.stem, name)?;
+        set_child_path(at, place.stem, name)?;
         let taken = self.taken(tree, place.layers, path, at.as_str())?;
         path.pop();
         let Some(taken) = taken else {

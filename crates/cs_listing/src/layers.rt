@@ -160,7 +160,7 @@ impl Repository<'_, '_, '_> {
 }
 
 /// The last name of a path.
-fn last_name<'n>(path: &[&'n [u8]]) -> &'n [u8]
+pub(crate) fn last_name<'n>(path: &[&'n [u8]]) -> &'n [u8]
     ensures { result.now ≡ last_name' (names path.now) }
 {
     match path.split_last() {

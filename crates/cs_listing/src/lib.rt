@@ -14,8 +14,8 @@
 //! without backtracking: after a mismatch only the last `*` of a name takes more, up to the next
 //! byte that may match the token after it, and only the last `**` of a path takes one name more.
 //! The invariant says why that is enough: what an earlier star could match, the last one can match
-//! too. Only rules are tried whose key, a byte, is one of three that the last name has
-//! (`specs/RuleKeys.antt`), and the last element of each comes first, from its end up to its last
+//! too. Only rules are tried whose marks the last name has, which are bits for bytes
+//! (`specs/Marks.antt`), and the last element of each comes first, from its end up to its last
 //! star. A class that does not end matches nothing, and takes the rest of its rule, so that each
 //! byte is read a bounded number of times. A path is given by its names below the folder of the
 //! rules, so that a walk can pass a suffix of its stack of names.
@@ -57,6 +57,7 @@ mod glob;
 mod glob_parsing;
 pub mod laws;
 mod layers;
+mod marks;
 mod paths;
 mod rule_lines;
 mod rules;

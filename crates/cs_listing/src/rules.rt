@@ -7,16 +7,17 @@ ghost use Rattle.cs_listing.specs.Rules.{applies as applies', decide as decide'}
 ghost use Rattle.cs_listing.specs.Braces.{AddsGlobs, globs_in, globs_saying};
 ghost use Rattle.cs_listing.specs.Choices.{is_ignore as is_ignore', takes};
 ghost use Rattle.cs_listing.specs.MatchWork.{path_work, rules_work};
+ghost use Rattle.cs_listing.specs.Marks.{rule_marks};
 ghost use Rattle.cs_listing.specs.RuleFiles.{rules_of, rule_of_line, rule_in, rule_saying, rules_saying};
-ghost use Rattle.cs_listing.specs.RuleKeys.{next_hash as next_hash', whole_key as whole_key', byte_key as byte_key', last_key as last_key', element_key as element_key', tokens_key as tokens_key', token_key as token_key', last_token_key as last_token_key', rule_key};
 
 use crate::braces::alternatives;
 use crate::classes::begins_with;
-use crate::glob::{Element, Token, matches_glob};
+use crate::glob::{Element, matches_glob};
 use crate::glob_parsing::parse_glob;
+use crate::layers::last_name;
+use crate::marks::{glob_marks, name_marks};
 use crate::rule_lines::{line_text, without_last, without_mark};
 use cs_prefilter::Steps;
-use memchr::memchr3_iter;
 use std::alloc::{AllocError, Global};
 use std::marker::Model;
 
@@ -51,9 +52,9 @@ pub(crate) struct Rule {
 #[derive(Debug, Drop)]
 pub struct Rules {
     rules: Vec<Rule>,
-    /// The keys of the rules.
-    keys: Vec<u8>,
-    ghost keyed: { keys.items ≡ map rule_key rules.items },
+    /// What the last name of a path needs for each rule.
+    marks: Vec<u64>,
+    ghost marked: { marks.items ≡ map rule_marks rules.items },
 }
 
 impl Rules {
@@ -65,7 +66,7 @@ impl Rules {
     {
         Rules {
             rules: Vec::new(alloc),
-            keys: Vec::new(alloc),
+            marks: Vec::new(alloc),
         }
     }
 
@@ -90,28 +91,30 @@ impl Rules {
         if self.rules.is_empty() {
             return None;
         }
-        self.decide_by_keys(path, is_folder, steps)
+        self.decide_by_marks(path, is_folder, steps)
     }
 
     // Apart, so that the test before it is inlined.
     #[inline(never)]
-    fn decide_by_keys(&self, path: &[&[u8]], is_folder: bool, steps: &mut Steps) -> Option<Decision>
+    fn decide_by_marks(
+        &self,
+        path: &[&[u8]],
+        is_folder: bool,
+        steps: &mut Steps,
+    ) -> Option<Decision>
         ensures decides { result ≡ decide' (rules_in self.now) (names path.now) is_folder }
         ensures work { CountsAtMost (rules_work (rules_in self.now) (names path.now)) steps.old steps.new }
     {
-        let name = path.last().copied().unwrap_or(&[]);
-        let last = last_key(name);
-        let whole = whole_key(name);
-        // From the first rule on: this search tests 32 keys at once also where candidates are near.
-        let mut said = None;
-        let mut candidates = memchr3_iter(ANY_KEY, last, whole, &self.keys);
-        'rules: while let Some(at) = candidates.next() {
+        let marks = name_marks(last_name(path));
+        let mut at = self.marks.len();
+        'rules: while at > 0 {
+            at -= 1;
             let rule = &self.rules[at];
-            if rule.applies(path, is_folder, steps) {
-                said = Some(rule.decision);
+            if marks | self.marks[at] == marks && rule.applies(path, is_folder, steps) {
+                return Some(rule.decision);
             }
         }
-        said
+        None
     }
 }
 
@@ -213,10 +216,10 @@ impl Rules {
     fn push(&mut self, rule: Rule) -> Result<(), AllocError>
         ensures { OnOk result (self.new.rules.items ≡ self.old.rules.items ++ rule ∷ []) }
     {
-        let key = rule.key();
-        // After this the last push does not fail, so no key is without its rule.
+        let marks = glob_marks(&rule.glob);
+        // After this the last push does not fail, so no marks are without their rule.
         self.rules.reserve(1)?;
-        self.keys.push(key)?;
+        self.marks.push(marks)?;
         self.rules.push(rule)?;
         Ok(())
     }
@@ -230,92 +233,5 @@ impl Rule {
         ensures work { CountsAtMost (path_work (rule_of self.now).glob (names path.now)) steps.old steps.new }
     {
         (is_folder || !self.only_folders) && matches_glob(&self.glob, path, steps)
-    }
-
-    fn key(&self) -> u8
-        ensures { result ≡ rule_key self.now }
-    {
-        match self.glob.split_last() {
-            Some((element, _)) => element_key(element),
-            None => ANY_KEY,
-        }
-    }
-}
-
-// ---- keys
-
-/// The key of a rule that may match names with any last byte.
-const ANY_KEY: u8 = 0;
-
-fn next_hash(hash: u8, byte: u8) -> u8
-    ensures { result ≡ next_hash' hash byte }
-{
-    hash.wrapping_mul(5).wrapping_add(byte)
-}
-
-/// The key of rules that match just this name.
-fn whole_key(name: &[u8]) -> u8
-    ensures { result ≡ whole_key' name.now }
-{
-    let mut hash = 0;
-    for byte in name {
-        hash = next_hash(hash, *byte);
-    }
-    hash | 128
-}
-
-fn byte_key(byte: u8) -> u8
-    ensures { result ≡ byte_key' byte }
-{
-    byte & 127
-}
-
-/// The key of other rules that match only names with the last byte of this one.
-fn last_key(name: &[u8]) -> u8
-    ensures { result ≡ last_key' name.now }
-{
-    match name.split_last() {
-        Some((byte, _)) => byte_key(*byte),
-        None => ANY_KEY,
-    }
-}
-
-fn element_key(element: &Element) -> u8
-    ensures { result ≡ element_key' element.now }
-{
-    match element {
-        Element::Folders => ANY_KEY,
-        Element::One(tokens) => tokens_key(tokens),
-    }
-}
-
-fn tokens_key(tokens: &[Token]) -> u8
-    ensures { result ≡ tokens_key' tokens.now }
-{
-    let mut hash = 0;
-    for token in tokens {
-        let Token::Byte(byte) = token else {
-            return last_token_key(tokens);
-        };
-        hash = next_hash(hash, *byte);
-    }
-    hash | 128
-}
-
-fn last_token_key(tokens: &[Token]) -> u8
-    ensures { result ≡ last_token_key' tokens.now }
-{
-    match tokens.split_last() {
-        Some((token, _)) => token_key(token),
-        None => ANY_KEY,
-    }
-}
-
-fn token_key(token: &Token) -> u8
-    ensures { result ≡ token_key' token.now }
-{
-    match token {
-        Token::Byte(byte) => byte_key(*byte),
-        Token::Any | Token::Class { .. } | Token::Star => ANY_KEY,
     }
 }

@@ -1,5 +1,5 @@
 -- Names that a folder may list. docs/FORMAT.md, "Paths and names".
-use Rattle.std.specs.Prelude.{ℕ, Bool, true, not, ◌&&◌, ◌||◌, codes, nat_eq, List, [], ◌∷◌, bytes_eq}
+use Rattle.std.specs.Prelude.{ℕ, Bool, true, not, ◌&&◌, nat_eq, List, [], ◌∷◌, bytes_eq}
 use Rattle.std.specs.Path.{slash}
 use Rattle.std.specs.List.{list_any, list_all}
 
@@ -13,10 +13,6 @@ has_nul text = list_any (λ b. nat_eq b 0) text
 -- whether a name is not empty, and has no `/` and no NUL
 abbrev pub is_element : List ℕ → Bool
 is_element name = not (bytes_eq name []) && (not (list_any (λ b. nat_eq b slash) name) && not (has_nul name))
-
--- whether a name is `.` or `..`
-abbrev pub are_dots : List ℕ → Bool
-are_dots name = bytes_eq name (codes ".") || bytes_eq name (codes "..")
 
 abbrev pub are_distinct : List (List ℕ) → Bool
 are_distinct [] = true

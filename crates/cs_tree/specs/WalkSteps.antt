@@ -7,7 +7,7 @@ use Rattle.cs_tree.specs.Cover.{covers}
 use Rattle.cs_tree.specs.Clean.{longest_path}
 use Rattle.cs_tree.specs.Snapshot.{Snapshot, item_at}
 use Rattle.cs_tree.specs.ReadCounts.{ReadCounts}
-use Rattle.cs_tree.specs.Reads.{ReadsNothing}
+use Rattle.cs_tree.specs.ReadsNothing.{ReadsNothing}
 use Rattle.cs_tree.specs.Trees.{listing_names}
 use Rattle.cs_tree.specs.Reachability.{elements_under, is_excluded, descends}
 use Rattle.cs_tree.specs.Walks.{FaultEntry, path_fault, is_short_file, is_among, fault_paths, names_walked, faults_walked, failures_walked, is_failed_call, AreWithinPathLimit, RequestsWithin}

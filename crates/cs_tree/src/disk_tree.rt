@@ -5,8 +5,10 @@ ghost use Rattle.std.specs.Fs.{file_type, IsDir, IsFile};
 ghost use Rattle.std.specs.Path.{slash};
 ghost use Rattle.std.specs.List.{list_all};
 ghost use Rattle.std.specs.Io.KnownBytes.{ReadConsumes};
-ghost use Rattle.cs_tree.specs.Elements.{are_dots as are_dots', is_element as is_element', are_elements};
+ghost use Rattle.cs_tree.specs.Dots.{are_dots as are_dots'};
+ghost use Rattle.cs_tree.specs.Elements.{is_element as is_element', are_elements};
 ghost use Rattle.cs_tree.specs.Trees.{listing_names, IsReadFault, is_tree_failure};
+ghost use Rattle.cs_tree.specs.Cover.{is_absolute as is_absolute'};
 ghost use Rattle.cs_tree.specs.DiskFiles.{DiskFileGives};
 ghost use Rattle.cs_tree.specs.FailureCount.{count_after};
 ghost use Rattle.cs_tree.specs.Looks.{kind_seen, nanoseconds_of};
@@ -14,7 +16,7 @@ ghost use Rattle.cs_tree.specs.Looks.{kind_seen, nanoseconds_of};
 use crate::fault::{TreeFault, counted_answer};
 use crate::look::{Look, Seen, Stamp};
 use crate::ordering::order_names;
-use crate::paths::is_element;
+use crate::paths::{is_absolute, is_element};
 use crate::retry::{gave_up, is_interrupted, retry_read};
 use crate::tree::{Kind, Listing, Tree};
 use memchr::memchr;
@@ -22,12 +24,12 @@ use std::alloc::{AllocError, Global};
 use std::fs::{Metadata, OpenFile};
 use std::io::{ErrorKind, Read};
 use std::os::unix::fs::MetadataExt;
-use std::rt::Files;
+use std::rt::{Env, Files};
 use std::str::from_utf8;
-use std::{fs, io};
+use std::{env, fs, io};
 
-/// The real disk, by a runtime. It has no model. Paths go to the system unchanged, so a relative
-/// path is relative to the current folder. An interrupted call is retried.
+/// The real disk, by a runtime. It has no model. A relative path is relative to the current folder.
+/// An interrupted call is retried.
 #[derive(Drop)]
 pub struct DiskTree<R: Files + Drop> {
     rt: R,
@@ -35,6 +37,11 @@ pub struct DiskTree<R: Files + Drop> {
     /// to open or read a pipe or a terminal may block.
     only_files: bool,
     output: Option<FileId>,
+    /// The current folder with a slash at its end, or an empty text. A path goes to the system
+    /// without it, so that the system looks fewer names up.
+    current: String,
+    /// What a read of a folder fills with names. Empty until the first one.
+    names: Vec<u8>,
     opened: DiskFile<R::File>,
     failed: u64,
 }
@@ -89,10 +96,14 @@ impl<R: Files + AllocGlobal + Clone + Drop> DiskTree<R> {
     fn of_kind(rt: R, only_files: bool) -> DiskTree<R>
         ensures { ⟦<DiskTree<R> as Tree>⟧.failed result ≡ 0 }
     {
+        let current = String::new(rt.alloc());
+        let names = Vec::new(rt.alloc());
         DiskTree {
             rt,
             only_files,
             output: None,
+            current,
+            names,
             opened: DiskFile::Closed,
             failed: 0,
         }
@@ -113,6 +124,31 @@ impl<R: Files + AllocGlobal + Clone + Drop> DiskTree<R> {
     }
 }
 
+impl<R: Env + Files + AllocGlobal + Clone + Drop> DiskTree<R> {
+    /// From now on the system is asked for paths below the current folder by their text from there
+    /// on, which is shorter. The process may not change its current folder after this.
+    pub fn shorten_paths(&mut self) -> Result<(), AllocError>
+        ensures { ⟦<DiskTree<R> as Tree>⟧.failed self.new
+            ≡ ⟦<DiskTree<R> as Tree>⟧.failed self.old }
+    {
+        if let Ok(folder) = env::current_dir(&self.rt) {
+            self.current = folder_path(self.rt.alloc(), folder.as_str())?;
+        }
+        Ok(())
+    }
+}
+
+/// A path without the text of the folder at its start, if a relative path is left.
+fn path_from<'p>(folder: &str, path: &'p str) -> &'p str
+    ensures { (result.now ≡ path.now) ⊎ ((path.now ≡ folder.now ++ result.now)
+        × (result.now ≢ []) × (is_absolute' result.now ≡ false)) }
+{
+    match path.strip_prefix(folder) {
+        Some(rest) if !rest.is_empty() && !is_absolute(rest) => rest,
+        _ => path,
+    }
+}
+
 impl<R: Files + AllocGlobal + Clone + Drop> Tree for DiskTree<R> {
     ghost failed = { λ t. t.failed };
 
@@ -120,7 +156,7 @@ impl<R: Files + AllocGlobal + Clone + Drop> Tree for DiskTree<R> {
 
     /// Does not follow a symbolic link.
     fn kind(&mut self, path: &str) -> Result<Kind, TreeFault> {
-        let answer = match fs::symlink_metadata(&self.rt, path) {
+        let answer = match fs::symlink_metadata(&self.rt, path_from(self.current.as_str(), path)) {
             Ok(metadata) => Ok(kind_of(&metadata)),
             Err(error) => Err(fault_of(&error)),
         };
@@ -128,7 +164,11 @@ impl<R: Files + AllocGlobal + Clone + Drop> Tree for DiskTree<R> {
     }
 
     fn entries(&mut self, alloc: Global, path: &str) -> Result<Listing, TreeFault> {
-        let answer = match list_folder(alloc, &self.rt, path) {
+        if self.names.is_empty() && self.names.resize(NAMES_LEN, 0).is_err() {
+            return Err(TreeFault::Memory);
+        }
+        let from = path_from(self.current.as_str(), path);
+        let answer = match list_folder(alloc, &self.rt, from, &mut self.names) {
             Ok(listing) => Ok(listing),
             Err(error) => Err(fault_of(&error)),
         };
@@ -138,7 +178,8 @@ impl<R: Files + AllocGlobal + Clone + Drop> Tree for DiskTree<R> {
     /// Follows symbolic links.
     fn open(&mut self, path: &str) -> Result<(), TreeFault> {
         self.opened = DiskFile::Closed;
-        match open_file(&self.rt, self.only_files, self.output, path) {
+        let from = path_from(self.current.as_str(), path);
+        match open_file(&self.rt, self.only_files, self.output, from) {
             Ok(file) => {
                 self.opened = file;
                 Ok(())
@@ -171,7 +212,7 @@ impl<R: Files + AllocGlobal + Clone + Drop> Tree for DiskTree<R> {
 impl<R: Files + AllocGlobal + Clone + Drop> Look for DiskTree<R> {
     /// Makes one call of the system.
     fn look(&mut self, path: &str) -> Result<Seen, TreeFault> {
-        let answer = match fs::symlink_metadata(&self.rt, path) {
+        let answer = match fs::symlink_metadata(&self.rt, path_from(self.current.as_str(), path)) {
             Ok(metadata) => Ok(seen_of(&metadata)),
             Err(error) => Err(fault_of(&error)),
         };
@@ -257,12 +298,13 @@ fn list_folder<R: Files + AllocGlobal + Clone + Drop>(
     alloc: Global,
     rt: &R,
     path: &str,
+    buffer: &mut [u8],
 ) -> io::Result<Listing>
     ensures names { IfOk result (λ listing. are_elements (listing_names listing) ≡ true) }
     ensures retried { IfErr result (λ error. error_kind error ≢ ErrorKind.Interrupted) }
 {
     'tries: for _ in 0..u64::MAX {
-        match list_once(alloc, rt, path) {
+        match list_once(alloc, rt, path, buffer) {
             Err(error) if is_interrupted(&error) => {}
             answer => return answer,
         }
@@ -270,12 +312,12 @@ fn list_folder<R: Files + AllocGlobal + Clone + Drop>(
     Err(gave_up())
 }
 
-/// Reads a folder once. Not inlined, since its buffer takes 16 KB of the stack.
-#[inline(never)]
+/// Reads a folder once. The buffer has to hold any name.
 fn list_once<R: Files + AllocGlobal + Clone + Drop>(
     alloc: Global,
     rt: &R,
     path: &str,
+    buffer: &mut [u8],
 ) -> io::Result<Listing>
     ensures { IfOk result (λ listing. are_elements (listing_names listing) ≡ true) }
 {
@@ -284,15 +326,14 @@ fn list_once<R: Files + AllocGlobal + Clone + Drop>(
         unnamed: false,
     };
     let mut folder = rt.open_dir(folder_path(alloc, path)?.as_str())?;
-    let mut names = [0u8; NAMES_LEN];
     'reads: for _ in 0..u64::MAX {
-        let len = folder.read(&mut names)?;
+        let len = folder.read(buffer)?;
         if len == 0 {
             // A folder that changes during the read may list a name twice.
             order_names(&mut listing.names);
             return Ok(listing);
         }
-        list_names(alloc, &mut listing, &names[..len])?;
+        list_names(alloc, &mut listing, &buffer[..len])?;
     }
     Err(gave_up())
 }

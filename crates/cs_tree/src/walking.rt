@@ -2,7 +2,7 @@
 ghost use Rattle.std.specs.Prelude.{◌≡◌, ◌≢◌, ◌≤◌, ◌++◌, ℕ, List, [], ◌∷◌, true, map, string_bytes, OnOk, IfOk, MatchResult, Contains, IsPermutation, ◌<◌, ◌^◌, length, nat_eq, codes};
 ghost use Rattle.cs_tree.specs.Folders.{child, are_elements, last_element as last_element'};
 ghost use Rattle.cs_tree.specs.Clean.{longest_path};
-ghost use Rattle.cs_tree.specs.Reads.{ReadsNothing};
+ghost use Rattle.cs_tree.specs.ReadsNothing.{ReadsNothing};
 ghost use Rattle.cs_tree.specs.NamesAscending.{are_ascending};
 ghost use Rattle.cs_tree.specs.Walks.{RequestsWithin, FindsIn, FaultEntry, CountsFaults, are_alone, failures_walked, is_among, fault_entry, fault_paths, names_walked, faults_walked, AreWithinPathLimit};
 ghost use Rattle.cs_tree.specs.PathSet as set;

@@ -14,6 +14,7 @@ use Rattle.cs_match.specs.declared.lanes.Lane.{Lane}
 use Rattle.cs_match.specs.Table.{unknown, TellsLines}
 use Rattle.cs_match.specs.MatchingEnds.{matching_ends, newlines_between}
 use Rattle.cs_match.specs.Lanes.{IsLane, IsChunk, AreListed, quarter}
+use Rattle.cs_match.proofs.PositionCountLemmas.{mul_both}
 use Rattle.cs_match.proofs.MatchingEndLemmas.{newlines-append, newlines-more, ends-none, ends-append}
 use Rattle.cs_match.proofs.WholeLineLemmas.{whole_between, whole_line, whole_drop, whole_has_newline}
 
@@ -238,13 +239,8 @@ work-more each from middle to before now later low high done more =
     let size : to - from ≡ (middle - from) + (to - middle) = omega arith in
     omega (arith, done, more, ap (λ n. each * n) size)
 
-pub filled-work : (each other bytes now later : ℕ) → other ≡ each → later ≤ now + other * bytes → later ≤ now + (each + 1) * bytes
-filled-work each other bytes now later e h = omega (arith, h, ap (λ m. m * bytes) e)
-
-pub moved-work : (each bytes more now later : ℕ) → later ≡ now + more → more ≤ bytes → later ≤ now + (each + 1) * bytes
-moved-work each bytes more now later e low =
-    let product : (each + 1) * bytes ≡ each * bytes + bytes = omega arith in
-    omega (arith, e, low, product)
+pub moved-work : (each bytes more now later : ℕ) → 1 ≤ each → later ≡ now + more → more ≤ bytes → later ≤ now + each * bytes
+moved-work each bytes more now later some e low = omega (arith, e, low, mul_both 1 bytes each bytes some (omega arith))
 
 pub pending-far : (old first : List ℕ) (at n next : ℕ) → at + n ≡ next → drop at old ≡ drop at first → drop next old ≡ drop next first
 pending-far old first at n next e same =

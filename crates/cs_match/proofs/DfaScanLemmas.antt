@@ -2,10 +2,9 @@
 use Rattle.std.proofs.Common.{◌≡◌, ◌≢◌, ℕ, suc, ◌+◌, ◌-◌, ◌<◌, ◌≤◌, Bool, false, cond, nat_eq, List, [], ◌∷◌, ◌++◌, take, drop, length, get_or, refl, sym, ap, subst, ◌∙◌, arith, append-nil, drop-cons, length-drop, inl, inr}
 use Rattle.std.proofs.lemmas.Bool.{eqb-true, ne_eqb, cases_Bool, cases_lt}
 use Rattle.cs_syntax.specs.Matching.{Tree}
-use Rattle.cs_match.specs.declared.dfa.LazyDfa.{LazyDfa}
 use Rattle.cs_match.specs.declared.dfa.Scan.{Scan}
 use Rattle.cs_match.specs.declared.state.State.{State}
-use Rattle.cs_match.specs.ConsistentDfa.{IsConsistent, HasState, LeadsIn, tree_in, count_in}
+use Rattle.cs_match.specs.ConsistentDfa.{Dfa, IsConsistent, HasState, LeadsIn, count_in}
 use Rattle.cs_match.specs.Deciding.{Decides}
 use Rattle.cs_match.specs.LastPart.{last_part}
 use Rattle.cs_match.specs.LazyDfa.{match_number, dead_number, start_number, accepted_number, accepting, next}
@@ -71,10 +70,10 @@ lists_none t text old new p moves =
           ∙ append-nil (matching_ends has_match text old.from old.to));
     }
 
-module _ (dfa : LazyDfa) (right : IsConsistent dfa) (text : List ℕ) (scan : Scan) (low : scan.from ≤ scan.to) (within : scan.to < length text)
-    (never : NeverAccepted (tree_in dfa) (start (tree_in dfa)) (scanned_part text scan)) where
+module _ (dfa : Dfa) (right : IsConsistent dfa.tree dfa.states) (text : List ℕ) (scan : Scan) (low : scan.from ≤ scan.to) (within : scan.to < length text)
+    (never : NeverAccepted dfa.tree (start dfa.tree) (scanned_part text scan)) where
   abbrev t : Tree
-  t = tree_in dfa
+  t = dfa.tree
 
   abbrev b : ℕ
   b = get_or text scan.to 0
@@ -195,7 +194,7 @@ module _ (dfa : LazyDfa) (right : IsConsistent dfa) (text : List ℕ) (scan : Sc
         )
 
 -- nothing is scanned yet
-pub scanned_none : (dfa : LazyDfa) (text : List ℕ) (from number : ℕ) → from ≤ length text → HasState dfa number (start (tree_in dfa)) →
+pub scanned_none : (dfa : Dfa) (text : List ℕ) (from number : ℕ) → from ≤ length text → HasState dfa number (start dfa.tree) →
     HasScanned dfa text (record { from = from; to = from; number = number })
 unfolding last_part
 scanned_none dfa text from number within stands =
@@ -203,25 +202,25 @@ scanned_none dfa text from number within stands =
     record {
       low = omega arith;
       within = within;
-      part = subst (λ n. NeverAccepted (tree_in dfa) (start (tree_in dfa)) (last_part (take n (drop from text)))) none tt;
-      at = subst (λ n. HasState dfa number (state (tree_in dfa) (last_part (take n (drop from text))))) none stands;
+      part = subst (λ n. NeverAccepted dfa.tree (start dfa.tree) (last_part (take n (drop from text)))) none tt;
+      at = subst (λ n. HasState dfa number (state dfa.tree (last_part (take n (drop from text))))) none stands;
     }
 
 -- The DFA moves over a byte whose transition it may have filled: it has changed, and not its tree.
-module _ (old dfa : LazyDfa) (same : tree_in dfa ≡ tree_in old) (right : IsConsistent dfa) (text : List ℕ) (before scan : Scan)
-    (passed : PassesLines (tree_in old) text before scan) (after : before.to ≤ scan.to) (scanned : HasScanned old text scan)
-    (within : scan.to < length text) (number : ℕ) (leads : LeadsIn dfa (state (tree_in old) (scanned_part text scan)) (get_or text scan.to 0) number) where
+module _ (old dfa : Dfa) (same : dfa.tree ≡ old.tree) (right : IsConsistent dfa.tree dfa.states) (text : List ℕ) (before scan : Scan)
+    (passed : PassesLines old.tree text before scan) (after : before.to ≤ scan.to) (scanned : HasScanned old text scan)
+    (within : scan.to < length text) (number : ℕ) (leads : LeadsIn dfa (state old.tree (scanned_part text scan)) (get_or text scan.to 0) number) where
   abbrev On : Scan → Type 0
-  On new = HasScanned dfa text new × ListsLine (tree_in old) text before new
+  On new = HasScanned dfa text new × ListsLine old.tree text before new
 
-  never : NeverAccepted (tree_in dfa) (start (tree_in dfa)) (scanned_part text scan)
+  never : NeverAccepted dfa.tree (start dfa.tree) (scanned_part text scan)
   never = subst (λ (t : Tree). NeverAccepted t (start t) (scanned_part text scan)) (sym same) scanned.part
 
-  leads_now : LeadsIn dfa (state (tree_in dfa) (scanned_part text scan)) (get_or text scan.to 0) number
+  leads_now : LeadsIn dfa (state dfa.tree (scanned_part text scan)) (get_or text scan.to 0) number
   leads_now = subst (λ (t : Tree). LeadsIn dfa (state t (scanned_part text scan)) (get_or text scan.to 0) number) (sym same) leads
 
-  all : (new : Scan) → HasScanned dfa text new × ListsLine (tree_in dfa) text scan new → On new
-  all new h = (h.0, passes_lists (tree_in old) text before scan new passed (subst (λ (t : Tree). ListsLine t text scan new) same h.1) after)
+  all : (new : Scan) → HasScanned dfa text new × ListsLine dfa.tree text scan new → On new
+  all new h = (h.0, passes_lists old.tree text before scan new passed (subst (λ (t : Tree). ListsLine t text scan new) same h.1) after)
 
   pub over_byte : number ≢ match_number (count_in dfa) → On (record { from = scan.from; to = scan.to + 1; number = number })
   over_byte other = all (record { from = scan.from; to = scan.to + 1; number = number })

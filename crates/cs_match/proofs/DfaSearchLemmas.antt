@@ -7,7 +7,7 @@ use Rattle.cs_syntax.specs.Matching.{Tree}
 use Rattle.cs_match.specs.declared.state.State.{State}
 use Rattle.cs_match.specs.Glushkov.{accepts_in}
 use Rattle.cs_match.specs.States.{state, successor, accepts_before}
-use Rattle.cs_match.specs.LazyDfa.{match_number, accepted_number, StandsFor, Leads}
+use Rattle.cs_match.specs.LazyDfa.{match_number, accepted_number, StandsFor, Leads, accepting, next}
 use Rattle.cs_match.proofs.TransitionLemmas.{accepted_in_line, leads_to_found, leads_on}
 use Rattle.cs_match.proofs.StateLemmas.{beyond_more, accepts_in_line, accepts_at_end}
 
@@ -36,13 +36,15 @@ module _ (t u : Tree) (count : ℕ) (states : List State) (number : ℕ) (same :
         ∙ beyond_more t s i lt (λ f. other (byte ∙ f)))
         (leads_on u count states b number (state t (take i s)) leads (λ f. e (f ∙ accepted_in_line count b other))).1
 
-    pub scan_ends : length s ≤ i → b ≡ 10 → eqb number 0 ≡ accepts_in s t (length s)
-    scan_ends le byte =
-        let n = state t (take i s) in
-        let all = ap (λ x. accepts_before x n b) same ∙ ap (λ x. accepts_before t x b) (ap (state t) (take_all i s le))
-        ∙ ap (accepts_before t (state t s)) byte ∙ accepts_at_end t s in
-        let found : accepted_number count b ≡ 0 = ap (accepted_number count) byte in
-        elim (cases_eq number 0) [
-          | inl e ↦ eq-eqb number 0 e ∙ sym (leads_to_found u count states b number n some leads (e ∙ sym found)) ∙ all
-          | inr e ↦ ne_eqb number 0 e ∙ sym (leads_on u count states b number n leads (λ f. e (f ∙ found))).0 ∙ all
-        ]
+-- at the end of a line the first row is that of a match
+first_iff : (u : Tree) (count : ℕ) (states : List State) (n : State) (b number : ℕ) → b ≡ 10 → Leads u count states n b number →
+    eqb number 0 ≡ accepts_before u n b
+first_iff u count states n b number line (accepting is h) = eq-eqb number 0 (is ∙ ap (accepted_number count) line) ∙ sym h
+first_iff u count states n b number line (next h stands other ends) = ne_eqb number 0 other ∙ sym h
+
+pub scan_ends : (t u : Tree) (count : ℕ) (states : List State) (number : ℕ) → u ≡ t → (s : List ℕ) (i b : ℕ) →
+    Leads u count states (state t (take i s)) b number → length s ≤ i → b ≡ 10 → eqb number 0 ≡ accepts_in s t (length s)
+scan_ends t u count states number same s i b leads le byte =
+    let n = state t (take i s) in
+    first_iff u count states n b number byte leads ∙ ap (λ x. accepts_before x n b) same
+    ∙ ap (λ x. accepts_before t x b) (ap (state t) (take_all i s le)) ∙ ap (accepts_before t (state t s)) byte ∙ accepts_at_end t s

@@ -3,9 +3,8 @@ use Rattle.std.proofs.Common.{◌≡◌, ◌≢◌, ℕ, ◌+◌, ◌-◌, ◌<�
 use Rattle.std.proofs.lemmas.List.{take-append-drop}
 use Rattle.std.proofs.lemmas.List.Elements.{All-take, All-drop, All-append, All-cons, All-nil, All-from_get_or}
 use Rattle.cs_tree.specs.ByteList.{AreBytes}
-use Rattle.cs_match.specs.declared.dfa.LazyDfa.{LazyDfa}
 use Rattle.cs_match.specs.declared.table.Table.{Table}
-use Rattle.cs_match.specs.ConsistentDfa.{IsConsistent, IsKnown, table_in, tree_in, count_in}
+use Rattle.cs_match.specs.ConsistentDfa.{Dfa, IsConsistent, IsKnown, table_in, count_in}
 use Rattle.cs_match.specs.LazyDfa.{match_number, dead_number, start_number}
 use Rattle.cs_match.specs.Lines.{newline}
 use Rattle.cs_match.specs.NoNewline.{HasNoNewline}
@@ -24,29 +23,34 @@ number_after-same r s same number [] = refl
 number_after-same r s same number (b ∷ text) =
     ap (λ n. number_after r n text) (same number b) ∙ number_after-same r s same (next_number s number b) text
 
-module _ (dfa : LazyDfa) (right : IsConsistent dfa) (text : List ℕ) (bytes : (k : ℕ) → Fits w8 (get_or text k 0)) where
+-- the bytes of a text from an offset on
+pub rest_bytes : (text : List ℕ) → ((k : ℕ) → Fits w8 (get_or text k 0)) → (k : ℕ) → AreBytes (drop k text)
+rest_bytes text bytes k = All-drop IsByte k text (All-from_get_or IsByte text 0 (λ i _. omega (arith, bytes i)))
+
+-- over a byte
+pub known_step : (dfa : Dfa) (number b : ℕ) (rest : List ℕ) → IsKnown dfa number (b ∷ rest) →
+    IsKnown dfa (next_number (table_in dfa) number b) rest
+unfolding number_after
+known_step dfa number b rest known = known
+
+pub known_here : (dfa : Dfa) (text : List ℕ) (to number : ℕ) → to < length text → IsKnown dfa number (drop to text) →
+    IsKnown dfa number (get_or text to 0 ∷ drop (to + 1) text)
+known_here dfa text to number within known =
+    subst (λ bs. number_after (table_in dfa) number bs ≢ unknown (table_in dfa))
+    (drop-cons text to 0 within ∙ ap (λ k. get_or text to 0 ∷ drop k text) (sym (add-one to))) known
+
+module _ (dfa : Dfa) (right : IsConsistent dfa.tree dfa.states) where
   abbrev r : Table
   r = table_in dfa
 
-  rest_bytes : (k : ℕ) → AreBytes (drop k text)
-  rest_bytes k = All-drop IsByte k text (All-from_get_or IsByte text 0 (λ i _. omega (arith, bytes i)))
-
-  module _ (to number : ℕ) (within : to < length text) (known : IsKnown dfa number (drop to text)) where
-    abbrev after : ℕ
-    after = next_number r number (get_or text to 0)
-
-    pub known_on : IsKnown dfa after (drop (to + 1) text)
-    unfolding number_after
-    known_on =
-        subst (λ bs. number_after r number bs ≢ unknown r)
-        (drop-cons text to 0 within ∙ ap (λ k. get_or text to 0 ∷ drop k text) (sym (add-one to))) known
-
-    pub known_next : after ≢ count_in dfa
-    known_next e = known_on (after_unknown (tree_in dfa) dfa.states.classes dfa.states.cached dfa.states.transitions.items right.classes
-        right.cached right.table r refl refl refl after (drop (to + 1) text) (rest_bytes (to + 1)) e)
+  pub known_next : (number b : ℕ) (rest : List ℕ) → AreBytes rest → IsKnown dfa number (b ∷ rest) → next_number r number b ≢ count_in dfa
+  known_next number b rest bytes known e =
+      known_step dfa number b rest known (after_unknown dfa.tree dfa.states.classes dfa.states.cached dfa.states.transitions.items right.classes
+      right.cached right.table r refl refl refl (next_number r number b) rest bytes e)
 
   -- over the rest of a line and its newline
-  module _ (to end : ℕ) (high : to ≤ end) (part : HasNoNewline (take (end - to) (drop to text))) (line : drop end text ≡ newline ∷ drop (end + 1) text) where
+  module _ (text : List ℕ) (bytes : (k : ℕ) → Fits w8 (get_or text k 0)) (to end : ℕ) (high : to ≤ end)
+      (part : HasNoNewline (take (end - to) (drop to text))) (line : drop end text ≡ newline ∷ drop (end + 1) text) where
     abbrev rest : List ℕ
     rest = take (end - to) (drop to text)
 
@@ -58,7 +62,7 @@ module _ (dfa : LazyDfa) (right : IsConsistent dfa) (text : List ℕ) (bytes : (
         ∙ sym (append_assoc rest (newline ∷ []) (drop (end + 1) text))
 
     line_bytes : AreBytes (rest ++ newline ∷ [])
-    line_bytes = All-append IsByte rest (newline ∷ []) (All-take IsByte (end - to) (drop to text) (rest_bytes to))
+    line_bytes = All-append IsByte rest (newline ∷ []) (All-take IsByte (end - to) (drop to text) (rest_bytes text bytes to))
         (All-cons IsByte newline [] (omega arith) (All-nil IsByte))
 
     over : (number after : ℕ) → number_after r number (rest ++ newline ∷ []) ≡ after → IsKnown dfa number (drop to text) →
@@ -71,11 +75,11 @@ module _ (dfa : LazyDfa) (right : IsConsistent dfa) (text : List ℕ) (bytes : (
 
     pub known_match : (number : ℕ) → number ≡ match_number (count_in dfa) → IsKnown dfa number (drop to text) → IsKnown dfa 0 (drop (end + 1) text)
     known_match number is = over number 0
-        (after_match (tree_in dfa) dfa.states.classes dfa.states.cached dfa.states.transitions.items right.classes right.cached
+        (after_match dfa.tree dfa.states.classes dfa.states.cached dfa.states.transitions.items right.classes right.cached
         right.table r refl refl refl number rest line_bytes part is)
 
     pub known_dead : (number : ℕ) → number ≡ dead_number (count_in dfa) → IsKnown dfa number (drop to text) →
         IsKnown dfa (start_number (count_in dfa)) (drop (end + 1) text)
     known_dead number is = over number (start_number (count_in dfa))
-        (after_dead (tree_in dfa) dfa.states.classes dfa.states.cached dfa.states.transitions.items right.classes right.cached
+        (after_dead dfa.tree dfa.states.classes dfa.states.cached dfa.states.transitions.items right.classes right.cached
         right.table r refl refl refl number rest line_bytes part is)

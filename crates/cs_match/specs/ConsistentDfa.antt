@@ -1,8 +1,11 @@
--- The invariant of the lazy DFA.
-use Rattle.std.specs.Prelude.{ℕ, ◌≡◌, ◌≢◌, List, ◌<◌, ◌≤◌, ◌-◌, ◌/◌, length, vec_capacity}
+-- What contracts see of the lazy DFA, and its invariant.
+use Rattle.std.specs.Prelude.{ℕ, ◌≡◌, ◌≢◌, List, ◌<◌, ◌≤◌, ◌-◌, ◌/◌, length, refl, vec_capacity}
+use Rattle.std.specs.Coded.{Coded, code_by, coded×}
 use Rattle.cs_syntax.specs.Matching.{Tree}
+use Rattle.cs_syntax.specs.TreeCode.{tree_code}
 use Rattle.cs_match.specs.declared.state.State.{State}
-use Rattle.cs_match.specs.declared.dfa.LazyDfa.{LazyDfa}
+use Rattle.cs_match.specs.declared.dfa.StateCache.{StateCache}
+use Rattle.cs_match.specs.contracts.dfa.StateCache.{the_row}
 use Rattle.cs_match.specs.Automaton.{Automaton}
 use Rattle.cs_match.specs.ByteClasses.{AreClasses}
 use Rattle.cs_match.specs.Glushkov.{position_count, IsExpanded}
@@ -11,59 +14,68 @@ use Rattle.cs_match.specs.LazyDfa as dfa
 use Rattle.cs_match.specs.Table.{next_number, number_after, unknown, IsRow}
 use Rattle.cs_match.specs.declared.table.Table.{Table}
 use Rattle.cs_prefilter.specs.declared.steps.Steps.{Steps}
+use Rattle.cs_prefilter.specs.CountsAtMost.{CountsAtMost}
 
--- the tree of the DFA, and the number of its byte classes
-abbrev pub tree_in : LazyDfa → Tree
-tree_in dfa = dfa.program.now
+-- the tree of the program, and its cached states
+pub record Dfa : Type 0 where
+  pub tree : Tree
+  pub states : StateCache
 
-abbrev pub count_in : LazyDfa → ℕ
-count_in dfa = dfa.states.classes.count
+-- a DFA is stored as the pair of its fields
+abbrev pub dfa_code : Coded Dfa
+dfa_code =
+    code_by (Tree × StateCache) (coded× tree_code (the_row.coded)) (λ t. (t.tree, t.states))
+    (λ p. record { tree = p.0; states = p.1 }) (λ _. refl)
+
+-- the number of byte classes
+abbrev pub count_in : Dfa → ℕ
+count_in t = t.states.classes.count
 
 -- what contracts see of the DFA with a list and its counter; the first four states are no others than the start state
-abbrev pub automaton_of : LazyDfa → List ℕ → Steps → Automaton
-automaton_of dfa ends steps =
-    record { tree = tree_in dfa; states = length dfa.states.cached.items - 4; ends = ends; steps = steps.count }
+abbrev pub automaton_of : Dfa → List ℕ → Steps → Automaton
+automaton_of t ends steps =
+    record { tree = t.tree; states = length t.states.cached.items - 4; ends = ends; steps = steps.count }
 
 -- the tree is expanded, the classes, the states and the table are correct, and the memory has the right size
-pub record IsConsistent (t : LazyDfa) : Type 0 where
-  pub expanded : IsExpanded (tree_in t)
-  pub classes : AreClasses (tree_in t) t.states.classes
-  pub cached : dfa.AreStates (tree_in t) (count_in t) t.states.cached
-  pub table : dfa.IsTable (tree_in t) t.states.classes t.states.cached.items t.states.transitions.items
-  pub capacity : 65536 ≤ vec_capacity t.states.transitions
-  pub room : length t.states.scratch.positions ≡ position_count (tree_in t)
-  pub memory : IsScratch (tree_in t) t.states.memory
+pub record IsConsistent (tree : Tree) (of : StateCache) : Type 0 where
+  pub expanded : IsExpanded tree
+  pub classes : AreClasses tree of.classes
+  pub cached : dfa.AreStates tree of.classes.count of.cached
+  pub table : dfa.IsTable tree of.classes of.cached.items of.transitions.items
+  pub capacity : 65536 ≤ vec_capacity of.transitions
+  pub room : length of.scratch.positions ≡ position_count tree
+  pub memory : IsScratch tree of.memory
 
--- it stays so, and so does its tree
-abbrev pub StaysConsistent : LazyDfa → LazyDfa → Type 0
-StaysConsistent old new = IsConsistent new × (tree_in new ≡ tree_in old)
+-- a call keeps the tree, and takes at most so many steps
+abbrev pub StepsWithin : ℕ → Dfa → Dfa → Steps → Steps → Type 0
+StepsWithin bound old new before after = (new.tree ≡ old.tree) × CountsAtMost bound before after
 
 -- the state in this slot
-abbrev pub state_in : LazyDfa → ℕ → State
-state_in t slot = dfa.state_at (tree_in t) t.states.cached.items slot
+abbrev pub state_in : Dfa → ℕ → State
+state_in t slot = dfa.state_at t.tree t.states.cached.items slot
 
 -- the slot is that of a cached state, and not of a special one
-abbrev pub HasSlot : LazyDfa → ℕ → Type 0
+abbrev pub HasSlot : Dfa → ℕ → Type 0
 HasSlot t slot = dfa.IsSlot t.states.cached.items slot
 
 -- the number stands for the state
-abbrev pub HasState : LazyDfa → ℕ → State → Type 0
-HasState t number state = dfa.StandsFor (tree_in t) (count_in t) t.states.cached.items number state
+abbrev pub HasState : Dfa → ℕ → State → Type 0
+HasState t number state = dfa.StandsFor t.tree (count_in t) t.states.cached.items number state
 
 -- the number is a correct transition of the state over the byte
-abbrev pub LeadsIn : LazyDfa → State → ℕ → ℕ → Type 0
-LeadsIn t state b number = dfa.Leads (tree_in t) (count_in t) t.states.cached.items state b number
+abbrev pub LeadsIn : Dfa → State → ℕ → ℕ → Type 0
+LeadsIn t state b number = dfa.Leads t.tree (count_in t) t.states.cached.items state b number
 
 -- a transition of the state is unknown or correct
-abbrev pub HasTransition : LazyDfa → State → ℕ → ℕ → Type 0
-HasTransition t state b transition = dfa.IsTransition (tree_in t) (count_in t) t.states.cached.items state b transition
+abbrev pub HasTransition : Dfa → State → ℕ → ℕ → Type 0
+HasTransition t state b transition = dfa.IsTransition t.tree (count_in t) t.states.cached.items state b transition
 
 -- the slot is that of this state
-abbrev pub IsInSlot : LazyDfa → ℕ → State → Type 0
+abbrev pub IsInSlot : Dfa → ℕ → State → Type 0
 IsInSlot t slot state = HasSlot t slot × (state_in t slot ≡ state)
 
 -- the table of the DFA
-abbrev pub table_in : LazyDfa → Table
+abbrev pub table_in : Dfa → Table
 table_in t = record {
   transitions = record { ref_ptr = (0, 0); now = t.states.transitions.items };
   of = record { ref_ptr = (0, 0); now = t.states.classes.of };
@@ -71,12 +83,12 @@ table_in t = record {
 }
 
 -- a scan of the bytes from a state meets known transitions alone, since it would not leave the state *unknown*
-abbrev pub IsKnown : LazyDfa → ℕ → List ℕ → Type 0
+abbrev pub IsKnown : Dfa → ℕ → List ℕ → Type 0
 IsKnown t number bytes = number_after (table_in t) number bytes ≢ unknown (table_in t)
 
 -- The table is that of the DFA: a state has a row, its transitions are unknown or correct, and the slot of a state with an
 -- unknown one is known.
-pub record IsTableOf (t : LazyDfa) (table : Table) : Type 0 where
+pub record IsTableOf (t : Dfa) (table : Table) : Type 0 where
   pub count : table.count ≡ count_in t
   pub same : (number b : ℕ) → next_number table number b ≡ next_number (table_in t) number b
   pub row : (number : ℕ) (state : State) → HasState t number state → IsRow table number

@@ -2,9 +2,8 @@
 use Rattle.std.specs.Prelude.{ℕ, ◌≡◌, ◌≢◌, ◌+◌, ◌-◌, ◌<◌, ◌≤◌, Bool, false, List, [], ◌∷◌, ◌++◌, drop, length, nat_eq, if◌then◌else◌, slice_range, slice_index}
 use Rattle.cs_syntax.specs.Matching.{Tree}
 use Rattle.cs_match.specs.declared.dfa.Scan.{Scan}
-use Rattle.cs_match.specs.declared.dfa.LazyDfa.{LazyDfa}
 use Rattle.cs_match.specs.declared.state.State.{State}
-use Rattle.cs_match.specs.ConsistentDfa.{HasState, IsKnown, tree_in}
+use Rattle.cs_match.specs.ConsistentDfa.{Dfa, HasState, IsKnown}
 use Rattle.cs_match.specs.Deciding.{Decides}
 use Rattle.cs_match.specs.LastPart.{last_part}
 use Rattle.cs_match.specs.Lines.{newline}
@@ -23,14 +22,14 @@ abbrev pub scanned_part : List ℕ → Scan → List ℕ
 scanned_part text scan = last_part (slice_range text scan.from scan.to)
 
 -- the tree accepts before no byte of this part, and the number is that of the state after it
-pub record HasScanned (dfa : LazyDfa) (text : List ℕ) (scan : Scan) : Type 0 where
+pub record HasScanned (dfa : Dfa) (text : List ℕ) (scan : Scan) : Type 0 where
   pub low : scan.from ≤ scan.to
   pub within : scan.to ≤ length text
-  pub part : NeverAccepted (tree_in dfa) (start (tree_in dfa)) (scanned_part text scan)
-  pub at : HasState dfa scan.number (state (tree_in dfa) (scanned_part text scan))
+  pub part : NeverAccepted dfa.tree (start dfa.tree) (scanned_part text scan)
+  pub at : HasState dfa scan.number (state dfa.tree (scanned_part text scan))
 
 -- The scan moves on by known transitions alone: the DFA stays as it is, and each byte takes one step.
-pub record FollowsKnown (old new : LazyDfa) (text : List ℕ) (from to : Scan) (before after : Steps) : Type 0 where
+pub record FollowsKnown (old new : Dfa) (text : List ℕ) (from to : Scan) (before after : Steps) : Type 0 where
   pub same : new ≡ old
   pub known : IsKnown new to.number (drop to.to text)
   pub work : after.count ≡ before.count + (to.to - from.to)

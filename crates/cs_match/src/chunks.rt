@@ -1,6 +1,6 @@
 // Chunks: a part of a block is cut into four for the lanes, whose lists become one.
 ghost use Rattle.std.specs.Prelude.{◌≡◌, ◌≤◌, ◌<◌, ◌+◌, ◌-◌, ◌*◌, ◌++◌, length, take, drop, slice_index, slice_range};
-ghost use Rattle.cs_match.specs.ConsistentDfa.{IsConsistent, StaysConsistent, tree_in};
+ghost use Rattle.cs_match.specs.ConsistentDfa.{StepsWithin};
 ghost use Rattle.cs_match.specs.Skipping.{AreWholeLines};
 ghost use Rattle.cs_match.specs.Deciding.{Decides};
 ghost use Rattle.cs_match.specs.Work.{byte_work};
@@ -68,15 +68,14 @@ pub(crate) fn list_chunks(
     ends: &mut [usize],
     steps: &mut Steps,
 ) -> ListedLines
-    requires right { IsConsistent dfa.old }
     requires within { from ≤ length block.now }
     requires whole { AreWholeLines (drop from block.now) }
     requires room { 4 ≤ length ends.old }
-    ensures listed { AreListed (λ has_match. Decides has_match (tree_in dfa.old))
+    ensures listed { AreListed (λ has_match. Decides has_match dfa.old.tree)
         block.now from result.to result.count ends.new }
     ensures moves { from < length block.now → from < result.to }
-    ensures dfa { StaysConsistent dfa.old dfa.new }
-    ensures work { CountsAtMost ((byte_work (tree_in dfa.old) + 3) * (result.to - from)) steps.old steps.new }
+    ensures work { StepsWithin ((byte_work dfa.old.tree + 2) * (result.to - from)) dfa.old dfa.new
+        steps.old steps.new }
 {
     let quarter = ends.len() / 4;
     let size = (quarter - 1).min((block.len() - from) / 4 + LEAST);

@@ -1,7 +1,8 @@
 // Lazy DFA (RE2): subset construction on demand over Glushkov positions (`specs/Glushkov.antt`),
 // with a bounded cache of states that is cleared when it is full.
-ghost use Rattle.std.specs.Prelude.{◌≡◌, ◌≢◌, ◌↔◌, ◌+◌, ◌-◌, ◌<◌, ◌≤◌, ◌*◌, ℕ, Bool, List, IfOk, IsTrue, nat_eq, length, drop, slice_index, slice_range, vec_capacity, true, false};
+ghost use Rattle.std.specs.Prelude.{◌≡◌, ◌≢◌, ◌↔◌, ◌+◌, ◌-◌, ◌<◌, ◌≤◌, ◌*◌, ℕ, Bool, List, ◌∷◌, IfOk, IsTrue, length, drop, slice_index, slice_range, vec_capacity, true, false};
 ghost use Rattle.cs_syntax.specs.Matching.{HasMatch};
+ghost use Rattle.cs_tree.specs.ByteList.{AreBytes};
 ghost use Rattle.cs_match.specs.Work.{words, byte_work, line_work};
 ghost use Rattle.cs_match.specs.Deciding.{Decides};
 ghost use Rattle.cs_match.specs.Table.{next_number, number_after, table_start, unknown, HasRows, TellsLines};
@@ -12,10 +13,10 @@ ghost use Rattle.cs_match.specs.Skipped.{AreLinesBetween};
 ghost use Rattle.cs_match.specs.Lanes.{AreListed};
 ghost use Rattle.cs_match.specs.Glushkov.{position_count, cuts_of};
 ghost use Rattle.cs_match.specs.Digits.{IsBlock};
-ghost use Rattle.cs_match.specs.States.{start, successor, accepts_before, IsDead};
-ghost use Rattle.cs_match.specs.LazyDfa.{until_newline, accepted_number, most_rows, AreFirstRows, AreFirstStates, match_number, dead_number, start_number};
+ghost use Rattle.cs_match.specs.States.{successor, accepts_before, IsDead};
+ghost use Rattle.cs_match.specs.LazyDfa.{until_newline, accepted_number, most_rows, AreFirstRows, AreFirstStates, start_number};
 ghost use Rattle.cs_match.specs.declared.state.State.{State};
-ghost use Rattle.cs_match.specs.ConsistentDfa.{IsConsistent, StaysConsistent, IsKnown, IsTableOf, table_in, HasSlot, HasState, LeadsIn, tree_in, count_in, state_in};
+ghost use Rattle.cs_match.specs.ConsistentDfa.{StepsWithin, IsKnown, IsTableOf, table_in, HasSlot, HasState, LeadsIn, count_in, state_in};
 ghost use Rattle.cs_prefilter.specs.CountsAtMost.{CountsAtMost};
 
 use crate::byte_classes::ByteClasses;
@@ -27,6 +28,7 @@ use crate::state::State;
 use crate::table::Table;
 use cs_prefilter::Steps;
 use std::alloc::{AllocError, Global};
+use std::marker::Model;
 use std::ops::Range;
 
 /// The most transitions of the transition table: 128 KB.
@@ -74,11 +76,23 @@ pub(crate) struct StateCache {
     pub(crate) memory: Scratch,
 }
 
-/// A program with its cached states.
+/// A program with its cached states. Contracts see the program's tree and the states.
 #[derive(Drop)]
 pub(crate) struct LazyDfa<'a> {
     pub(crate) program: &'a Program,
     pub(crate) states: StateCache,
+}
+
+impl<'a> Model for LazyDfa<'a> {
+    ghost use Rattle.cs_match.specs.ConsistentDfa.{Dfa, dfa_code, IsConsistent};
+
+    ghost Value = { Dfa };
+
+    ghost coded = { dfa_code };
+
+    ghost view = { λ dfa. record { tree = dfa.program.now; states = dfa.states } };
+
+    ghost invariant = { λ dfa. IsConsistent dfa.program.now dfa.states };
 }
 
 /// The most states of a program with so many classes, whose sets have so many words.
@@ -92,6 +106,18 @@ fn most_states(classes: usize, words: usize) -> usize
 {
     let rows = (TRANSITIONS / classes).min(u16::MAX as usize);
     rows.min((MOST_WORDS / words.max(1)).max(LEAST_STATES))
+}
+
+/// The transition over a byte before which a state accepts, for so many classes.
+fn accepted(classes: u16, byte: u8) -> u16
+    requires { classes ≤ 256 }
+    ensures { result ≡ accepted_number classes byte }
+{
+    if byte == b'\n' {
+        Table::FOUND
+    } else {
+        MATCH * classes
+    }
 }
 
 /// The first states of a program with so many classes: five times the start state.
@@ -146,8 +172,8 @@ fn write_first(transitions: &mut Vec<u16>, classes: &ByteClasses)
 impl<'a> LazyDfa<'a> {
     /// A DFA whose cache has only the first states.
     pub(crate) fn new(alloc: Global, program: &'a Program) -> Result<LazyDfa<'a>, AllocError>
-        ensures { IfOk result (λ dfa. (tree_in dfa ≡ program.now)
-            × IsConsistent dfa × (length dfa.states.cached.items ≡ 5)) }
+        ensures { IfOk result (λ dfa. (dfa.tree ≡ program.now)
+            × (length dfa.states.cached.items ≡ 5)) }
     {
         let classes = *program.byte_classes();
         let scratch = State::new(alloc, program)?;
@@ -168,18 +194,17 @@ impl<'a> LazyDfa<'a> {
     /// The transition of a state over a byte, computed first if it is unknown.
     #[inline(always)]
     fn next(&mut self, from: u16, byte: u8, steps: &mut Steps) -> u16
-        requires right { IsConsistent self.old }
         requires number { (state : State) × HasState self.old from state }
         ensures leads { (state : State) → HasState self.old from state → LeadsIn self.new state byte result }
-        ensures dfa { StaysConsistent self.old self.new }
-        ensures work { CountsAtMost (byte_work (tree_in self.old) - 1) steps.old steps.new }
-        ensures known { next_number (table_in self.old) from byte ≢ count_in self.old → (self.new ≡ self.old)
-            × (result ≡ next_number (table_in self.old) from byte) × (steps.new.count ≡ steps.old.count + 1) }
+        ensures known { (rest : List ℕ) → AreBytes rest → IsKnown self.old from (byte ∷ rest) →
+            (self.new ≡ self.old) × IsKnown self.new result rest × (steps.new.count ≡ steps.old.count + 1) }
+        ensures work { StepsWithin (byte_work self.old.tree - 1) self.old self.new steps.old steps.new }
     {
         steps.add(1);
         let next = self.table().next(from, byte);
-        if next == self.states.classes.count {
-            self.fill((from / self.states.classes.count) as usize, byte, steps)
+        let count = self.states.classes.count;
+        if next == count {
+            self.fill((from / count) as usize, byte, steps)
         } else {
             next
         }
@@ -187,12 +212,11 @@ impl<'a> LazyDfa<'a> {
 
     /// Whether the line has a match. A line with a newline within it is simulated.
     pub(crate) fn is_match(&mut self, line: &[u8], steps: &mut Steps) -> bool
-        requires right { IsConsistent self.old }
-        ensures found { IsTrue result ↔ HasMatch (tree_in self.old) line.now }
-        ensures dfa { StaysConsistent self.old self.new }
-        ensures work { CountsAtMost (line_work (tree_in self.old) (length line.now)) steps.old steps.new }
+        ensures found { IsTrue result ↔ HasMatch self.old.tree line.now }
+        ensures work { StepsWithin (line_work self.old.tree (length line.now)) self.old self.new
+            steps.old steps.new }
     {
-        let mut number = self.start();
+        let mut number = START * self.states.classes.count;
         for b in line {
             // The transition table reads a newline as the end of the line.
             if *b == b'\n' {
@@ -202,7 +226,7 @@ impl<'a> LazyDfa<'a> {
                     .search(self.program, &mut self.states.memory, line, steps);
             }
             number = self.next(number, *b, steps);
-            if self.is_matched(number) {
+            if number == MATCH * self.states.classes.count {
                 return true;
             }
         }
@@ -210,46 +234,16 @@ impl<'a> LazyDfa<'a> {
         last == Table::FOUND
     }
 
-    /// The number of the start state.
-    #[inline(always)]
-    fn start(&self) -> u16
-        requires { IsConsistent self.now }
-        ensures number { result ≡ start_number (count_in self.now) }
-        ensures state { HasState self.now result (start (tree_in self.now)) }
-    {
-        START * self.states.classes.count
-    }
-
-    /// Whether the number is that of the match state.
-    #[inline(always)]
-    fn is_matched(&self, number: u16) -> bool
-        requires { IsConsistent self.now }
-        ensures { result ≡ nat_eq number (match_number (count_in self.now)) }
-    {
-        number == MATCH * self.states.classes.count
-    }
-
-    /// Whether the number is that of the dead state.
-    #[inline(always)]
-    fn is_dead(&self, number: u16) -> bool
-        requires { IsConsistent self.now }
-        ensures { result ≡ nat_eq number (dead_number (count_in self.now)) }
-    {
-        number == DEAD * self.states.classes.count
-    }
-
     /// Moves on by known transitions and, unless the text ends there, over the byte whose
     /// transition is special or unknown, or over the rest of the line that it decides.
     #[inline(always)]
     fn advance(&mut self, text: &[u8], scan: Scan, steps: &mut Steps) -> Scan
-        requires right { IsConsistent self.old }
         requires within { scan.to < length text.now }
         requires whole { AreWholeLines (drop scan.from text.now) }
         requires scanned { HasScanned self.old text.now scan }
-        ensures lists { ListsLine (tree_in self.old) text.now scan result }
+        ensures lists { ListsLine self.old.tree text.now scan result }
         ensures scanned { HasScanned self.new text.now result }
-        ensures dfa { StaysConsistent self.old self.new }
-        ensures work { CountsAtMost (byte_work (tree_in self.old) * (result.to - scan.to))
+        ensures work { StepsWithin (byte_work self.old.tree * (result.to - scan.to)) self.old self.new
             steps.old steps.new }
         ensures known { IsKnown self.old scan.number (drop scan.to text.now) →
             FollowsKnown self.old self.new text.now scan result steps.old steps.new }
@@ -261,17 +255,19 @@ impl<'a> LazyDfa<'a> {
         }
         let number = self.next(known.number, text[known.to], steps);
         let to = known.to + 1;
-        if self.is_matched(number) {
+        let count = self.states.classes.count;
+        let dead = DEAD * count;
+        if number == MATCH * count {
             return Scan {
                 to: line_end(text, to, steps) + 1,
                 number: Table::FOUND,
                 ..known
             };
         }
-        if self.is_dead(number) {
+        if number == dead {
             return Scan {
                 to: line_end(text, to, steps) + 1,
-                number: self.start(),
+                number: START * count,
                 ..known
             };
         }
@@ -285,16 +281,15 @@ impl<'a> LazyDfa<'a> {
     /// Moves on by known transitions, up to the byte whose transition is special or unknown.
     #[inline(always)]
     fn follow_known(&self, text: &[u8], scan: Scan) -> Scan
-        requires right { IsConsistent self.now }
         requires scanned { HasScanned self.now text.now scan }
         ensures low { scan.to ≤ result.to }
         ensures scanned { HasScanned self.now text.now result }
-        ensures passes { PassesLines (tree_in self.now) text.now scan result }
+        ensures passes { PassesLines self.now.tree text.now scan result }
         ensures known { IsKnown self.now scan.number (drop scan.to text.now) →
             IsKnown self.now result.number (drop result.to text.now) }
     {
         let table = self.table();
-        let start = self.start();
+        let start = START * self.states.classes.count;
         let mut number = scan.number;
         for to in scan.to..text.len() {
             let next = table.next(number, text[to]);
@@ -310,29 +305,15 @@ impl<'a> LazyDfa<'a> {
         }
     }
 
-    /// The transition over a byte before which the state accepts.
-    fn accepted(&self, byte: u8) -> u16
-        requires { IsConsistent self.now }
-        ensures { result ≡ accepted_number (count_in self.now) byte }
-    {
-        if byte == b'\n' {
-            Table::FOUND
-        } else {
-            MATCH * self.states.classes.count
-        }
-    }
-
     /// Computes an unknown transition, and stores it unless the cache is full.
     #[cold]
     #[inline(never)]
     fn fill(&mut self, slot: usize, byte: u8, steps: &mut Steps) -> u16
-        requires right { IsConsistent self.old }
         requires slot { HasSlot self.old slot }
         ensures leads { LeadsIn self.new (state_in self.old slot) byte result }
         ensures stored { length self.old.states.cached.items < self.old.states.cached.most →
             next_number (table_in self.new) (slot * count_in self.old) byte ≡ result }
-        ensures dfa { StaysConsistent self.old self.new }
-        ensures work { CountsAtMost (byte_work (tree_in self.old) - 2) steps.old steps.new }
+        ensures work { StepsWithin (byte_work self.old.tree - 2) self.old self.new steps.old steps.new }
     {
         steps.add(self.states.scratch.positions.len().div_ceil(64));
         self.states.cached.load(slot, &mut self.states.scratch);
@@ -341,12 +322,12 @@ impl<'a> LazyDfa<'a> {
             .scratch
             .step_over(self.program, &mut self.states.memory, byte, steps)
         {
-            let next = self.accepted(byte);
+            let next = accepted(self.states.classes.count, byte);
             self.put(slot, byte, next);
             return next;
         }
         if byte == b'\n' {
-            let start = self.start();
+            let start = START * self.states.classes.count;
             self.put(slot, byte, start);
             return start;
         }
@@ -356,18 +337,16 @@ impl<'a> LazyDfa<'a> {
     /// The number of the state under construction, which is cached if it is new: the successor of
     /// the state in the slot, which does not accept before the byte.
     fn next_number(&mut self, slot: usize, byte: u8, steps: &mut Steps) -> u16
-        requires right { IsConsistent self.old }
         requires slot { HasSlot self.old slot }
         requires within { byte ≢ newline }
-        requires stays { accepts_before (tree_in self.old) (state_in self.old slot) byte ≡ false }
+        requires stays { accepts_before self.old.tree (state_in self.old slot) byte ≡ false }
         requires scratch { self.old.states.scratch ≡
-            successor (tree_in self.old) (state_in self.old slot) byte }
+            successor self.old.tree (state_in self.old slot) byte }
         ensures leads { LeadsIn self.new (state_in self.old slot) byte result }
         ensures stored { length self.old.states.cached.items < self.old.states.cached.most →
             next_number (table_in self.new) (slot * count_in self.old) byte ≡ result }
-        ensures dfa { StaysConsistent self.old self.new }
-        ensures work { CountsAtMost (11 * words (position_count (tree_in self.old)) + 10 + 6 * 256)
-            steps.old steps.new }
+        ensures work { StepsWithin (11 * words (position_count self.old.tree) + 10 + 6 * 256)
+            self.old self.new steps.old steps.new }
     {
         let count = self.states.classes.count;
         let words = self.states.scratch.positions.len().div_ceil(64);
@@ -398,22 +377,20 @@ impl<'a> LazyDfa<'a> {
     /// Whether the state under construction is known to be dead: each match begins at the start of
     /// the line, and no position is in the set.
     fn is_lost(&self, steps: &mut Steps) -> bool
-        requires right { IsConsistent self.now }
         requires later { self.now.states.scratch.first ≡ false }
-        ensures dead { result ≡ true → IsDead (tree_in self.now) self.now.states.scratch }
-        ensures work { CountsAtMost (words (position_count (tree_in self.now))) steps.old steps.new }
+        ensures dead { result ≡ true → IsDead self.now.tree self.now.states.scratch }
+        ensures work { CountsAtMost (words (position_count self.now.tree)) steps.old steps.new }
     {
         self.program.is_anchored() && self.states.scratch.is_empty(steps)
     }
 
     /// Stores a transition for all bytes of the class.
     fn put(&mut self, slot: usize, byte: u8, next: u16)
-        requires right { IsConsistent self.old }
         requires slot { HasSlot self.old slot }
         requires leads { LeadsIn self.old (state_in self.old slot) byte next }
         ensures leads { LeadsIn self.new (state_in self.old slot) byte next }
         ensures stored { next_number (table_in self.new) (slot * count_in self.old) byte ≡ next }
-        ensures dfa { StaysConsistent self.old self.new }
+        ensures same { self.new.tree ≡ self.old.tree }
     {
         let class = self.states.classes.of[byte as usize] as usize;
         let transition = slot * self.states.classes.count as usize + class;
@@ -422,15 +399,14 @@ impl<'a> LazyDfa<'a> {
 
     /// Caches the state under construction, and returns its number.
     fn add(&mut self, place: usize) -> u16
-        requires right { IsConsistent self.old }
         requires room { length self.old.states.cached.items < self.old.states.cached.most }
-        requires block { IsBlock (cuts_of (tree_in self.old)) self.old.states.scratch.unfinished }
+        requires block { IsBlock (cuts_of self.old.tree) self.old.states.scratch.unfinished }
         ensures number { HasState self.new result self.old.states.scratch }
         ensures other { result ≢ 0 }
         ensures count { count_in self.new ≡ count_in self.old }
         ensures kept { (slot : ℕ) → HasSlot self.old slot
             → HasSlot self.new slot × (state_in self.new slot ≡ state_in self.old slot) }
-        ensures dfa { StaysConsistent self.old self.new }
+        ensures same { self.new.tree ≡ self.old.tree }
     {
         let count = self.states.classes.count;
         let slot = self.states.cached.len();
@@ -442,10 +418,9 @@ impl<'a> LazyDfa<'a> {
 
     /// Clears the cache except for the first states.
     fn empty(&mut self)
-        requires right { IsConsistent self.old }
         ensures room { length self.new.states.cached.items < self.new.states.cached.most }
         ensures scratch { self.new.states.scratch ≡ self.old.states.scratch }
-        ensures dfa { StaysConsistent self.old self.new }
+        ensures same { self.new.tree ≡ self.old.tree }
     {
         self.states.cached.truncate(FIRST);
         write_first(&mut self.states.transitions, &self.states.classes);
@@ -454,9 +429,8 @@ impl<'a> LazyDfa<'a> {
     /// The table, as far as it is filled.
     #[inline(always)]
     pub(crate) fn table(&self) -> Table<'_>
-        requires { IsConsistent self.now }
         ensures rows { HasRows result }
-        ensures tells { (has_match : List ℕ → Bool) → Decides has_match (tree_in self.now) →
+        ensures tells { (has_match : List ℕ → Bool) → Decides has_match self.now.tree →
             TellsLines has_match result }
         ensures known { (lines : List ℕ) → number_after result (table_start result) lines ≢ unknown result →
             IsKnown self.now (start_number (count_in self.now)) lines }
@@ -477,18 +451,16 @@ impl<'a> LazyDfa<'a> {
         ends: &mut [usize],
         steps: &mut Steps,
     ) -> ListedLines
-        requires right { IsConsistent self.old }
         requires lines { AreLinesBetween block.now part.start part.end }
         requires room { 0 < length ends.old }
-        ensures listed { AreListed (λ has_match. Decides has_match (tree_in self.old))
+        ensures listed { AreListed (λ has_match. Decides has_match self.old.tree)
             block.now part.start result.to result.count ends.new }
         ensures most { result.to ≤ part.end }
         ensures all { result.to ≢ part.end → result.count ≡ length ends.old }
         ensures stops { result.count ≡ length ends.old →
             result.to ≡ slice_index ends.new (result.count - 1) + 1 }
         ensures moves { part.start < part.end → part.start < result.to }
-        ensures dfa { StaysConsistent self.old self.new }
-        ensures work { CountsAtMost (byte_work (tree_in self.old) * (result.to - part.start))
+        ensures work { StepsWithin (byte_work self.old.tree * (result.to - part.start)) self.old self.new
             steps.old steps.new }
         ensures known { IsKnown self.old (start_number (count_in self.old))
             (slice_range block.now part.start part.end) →
@@ -498,7 +470,7 @@ impl<'a> LazyDfa<'a> {
         let mut scan = Scan {
             from: part.start,
             to: part.start,
-            number: self.start(),
+            number: START * self.states.classes.count,
         };
         let mut count = 0;
         'scan: while scan.to < part.end && count < ends.len() {

@@ -1,6 +1,6 @@
 // Lists of the matching lines of a block. The search of a block is a loop over such lists.
 ghost use Rattle.std.specs.Prelude.{◌≡◌, ◌≤◌, ◌<◌, ◌+◌, ◌-◌, ◌*◌, IfSome, length, drop};
-ghost use Rattle.cs_match.specs.ConsistentDfa.{IsConsistent, StaysConsistent, tree_in};
+ghost use Rattle.cs_match.specs.ConsistentDfa.{StepsWithin};
 ghost use Rattle.cs_match.specs.Skipping.{AreWholeLines, IsLineAfter};
 ghost use Rattle.cs_match.specs.Listing.{IsListedTo, ListsLines};
 ghost use Rattle.cs_match.specs.Table.{HasRows};
@@ -33,14 +33,13 @@ pub(crate) fn list_lines(
     ends: &mut [usize],
     steps: &mut Steps,
 ) -> ListedLines
-    requires right { IsConsistent dfa.old }
     requires within { from ≤ length block.now }
     requires whole { AreWholeLines (drop from block.now) }
     requires room { 0 < length ends.old }
-    ensures lists { ListsLines (tree_in dfa.old) block.now from result ends.new }
+    ensures lists { ListsLines dfa.old.tree block.now from result ends.new }
     ensures all { result.count ≡ 0 → result.to ≡ length block.now }
-    ensures dfa { StaysConsistent dfa.old dfa.new }
-    ensures work { CountsAtMost (list_work (tree_in dfa.old) (result.to - from)) steps.old steps.new }
+    ensures work { StepsWithin (list_work dfa.old.tree (result.to - from)) dfa.old dfa.new
+        steps.old steps.new }
 {
     let room = (ends.len() / 2).max(1);
     let mut to = from;
@@ -63,13 +62,12 @@ fn list_part(
     ends: &mut [usize],
     steps: &mut Steps,
 ) -> ListedLines
-    requires right { IsConsistent dfa.old }
     requires within { from < length block.now }
     requires whole { AreWholeLines (drop from block.now) }
     requires room { 0 < length ends.old }
-    ensures lists { ListsLines (tree_in dfa.old) block.now from result ends.new }
-    ensures dfa { StaysConsistent dfa.old dfa.new }
-    ensures work { CountsAtMost (list_work (tree_in dfa.old) (result.to - from)) steps.old steps.new }
+    ensures lists { ListsLines dfa.old.tree block.now from result ends.new }
+    ensures work { StepsWithin (list_work dfa.old.tree (result.to - from)) dfa.old dfa.new
+        steps.old steps.new }
 {
     let Some(prefilter) = next_prefilter(dfa.program, pacing) else {
         return scan_part(dfa, pacing, block, from, ends, steps);
@@ -111,14 +109,13 @@ fn finish_list(
     ends: &mut [usize],
     steps: &mut Steps,
 ) -> ListedLines
-    requires right { IsConsistent dfa.old }
     requires whole { AreWholeLines (drop from block.now) }
-    requires listed { IsListedTo (tree_in dfa.old) block.now from words ends.old }
+    requires listed { IsListedTo dfa.old.tree block.now from words ends.old }
     requires room { 0 < length ends.old }
-    ensures lists { ListsLines (tree_in dfa.old) block.now from result ends.new }
+    ensures lists { ListsLines dfa.old.tree block.now from result ends.new }
     ensures all { words.to ≤ result.to }
-    ensures dfa { StaysConsistent dfa.old dfa.new }
-    ensures work { CountsAtMost ((byte_work (tree_in dfa.old) + 2) * (result.to - from)) steps.old steps.new }
+    ensures work { StepsWithin ((byte_work dfa.old.tree + 2) * (result.to - from)) dfa.old dfa.new
+        steps.old steps.new }
 {
     let start = from + whole_lines_len(&block[from..words.to]);
     // The bytes of the line before the offset are read, and the newline before them.
@@ -148,13 +145,11 @@ fn list_line(
     ends: &mut [usize],
     steps: &mut Steps,
 ) -> ListedLines
-    requires right { IsConsistent dfa.old }
     requires line { IsLineAfter block.now line.start line.start line.end }
     requires room { 0 < length ends.old }
-    ensures lists { ListsLines (tree_in dfa.old) block.now line.start result ends.new }
+    ensures lists { ListsLines dfa.old.tree block.now line.start result ends.new }
     ensures all { result.to ≡ line.end + 1 }
-    ensures dfa { StaysConsistent dfa.old dfa.new }
-    ensures work { CountsAtMost (byte_work (tree_in dfa.old) * (line.end + 1 - line.start))
+    ensures work { StepsWithin (byte_work dfa.old.tree * (line.end + 1 - line.start)) dfa.old dfa.new
         steps.old steps.new }
 {
     dfa.list_ends(block, line.start..line.end + 1, ends, steps)
@@ -171,13 +166,11 @@ fn scan_part(
     ends: &mut [usize],
     steps: &mut Steps,
 ) -> ListedLines
-    requires right { IsConsistent dfa.old }
     requires within { from ≤ length block.now }
     requires whole { AreWholeLines (drop from block.now) }
     requires room { 0 < length ends.old }
-    ensures lists { ListsLines (tree_in dfa.old) block.now from result ends.new }
-    ensures dfa { StaysConsistent dfa.old dfa.new }
-    ensures work { CountsAtMost (1024 + (byte_work (tree_in dfa.old) + 3) * (result.to - from))
+    ensures lists { ListsLines dfa.old.tree block.now from result ends.new }
+    ensures work { StepsWithin (1024 + (byte_work dfa.old.tree + 2) * (result.to - from)) dfa.old dfa.new
         steps.old steps.new }
 {
     if ends.len() >= SHORT && !uses_one_lane(dfa.table(), pacing, &block[from..], steps) {

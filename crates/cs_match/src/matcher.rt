@@ -52,13 +52,13 @@ impl<'a> Model for Matcher<'a> {
     ghost coded = { automaton_code };
 
     ghost use Rattle.std.specs.Prelude.{◌<◌, ◌≤◌, length, take};
-    ghost use Rattle.cs_match.specs.ConsistentDfa.{IsConsistent, automaton_of};
+    ghost use Rattle.cs_match.specs.ConsistentDfa.{automaton_of};
 
     ghost view = { λ matcher. automaton_of matcher.dfa (take matcher.listed matcher.ends.items)
         matcher.steps };
 
-    ghost invariant = { λ matcher. IsConsistent matcher.dfa
-        × (0 < length matcher.ends.items) × (matcher.listed ≤ length matcher.ends.items) };
+    ghost invariant = { λ matcher. (0 < length matcher.ends.items)
+        × (matcher.listed ≤ length matcher.ends.items) };
 }
 
 impl<'a> Matcher<'a> {
@@ -85,7 +85,8 @@ impl<'a> Matcher<'a> {
         ensures some { 1 ≤ result }
         ensures bound { result ≤ most_states }
     {
-        self.dfa.states.cached.len() - 4
+        let dfa = &self.dfa;
+        dfa.states.cached.len() - 4
     }
 
     /// Counts so many steps more, which a caller took for its search of the text. Does nothing when

@@ -1,15 +1,14 @@
 use Rattle.std.proofs.Common.{◌≡◌, ◌≢◌, ◌+◌, ◌-◌, ◌*◌, ◌/◌, ◌≤◌, ◌++◌, length, take, drop, get_or, refl, sym, ap, subst, ◌∙◌, arith}
 use Rattle.std.specs.Prelude.{slice_index_or}
 use Rattle.cs_prefilter.specs.declared.steps.Steps.{Steps}
-use Rattle.cs_match.specs.ConsistentDfa.{IsConsistent, tree_in}
-use Rattle.cs_match.specs.declared.dfa.LazyDfa.{LazyDfa}
+use Rattle.cs_match.specs.ConsistentDfa.{Dfa}
 use Rattle.cs_match.specs.declared.lanes.Lane.{Lane}
 use Rattle.cs_match.specs.Deciding.{Decides}
 use Rattle.cs_match.specs.Work.{byte_work}
 use Rattle.cs_match.specs.Table.{unknown, TellsLines}
 use Rattle.cs_match.specs.MatchingEnds.{newlines_between}
 use Rattle.cs_match.specs.Lanes.{AreListed, quarter}
-use Rattle.cs_match.proofs.ChunkLemmas.{newlines_within, chunk_within, pending-quarter, pending-more, quarter_within, length-quarter, room_between, work-more, filled-work, moved-work, pending-far, own-len, filled-len, filled, filled-rest, AreListed-none, AreListed-lane, AreListed-append, AreListed-kind, lists_all}
+use Rattle.cs_match.proofs.ChunkLemmas.{newlines_within, chunk_within, pending-quarter, pending-more, quarter_within, length-quarter, room_between, work-more, moved-work, pending-far, own-len, filled-len, filled, filled-rest, AreListed-none, AreListed-lane, AreListed-append, AreListed-kind, lists_all}
 use Rattle.cs_match.proofs.chunks.list_chunks.Goals as goal
 use Rattle.cs_match.proofs.chunks.list_chunks.Goals.{then-lane-unknown, else-lane-unknown}
 
@@ -18,12 +17,11 @@ other = record { from = 0; number = 0; count = 0 }
 
 pub loop-k-init : goal.loop-k-init
 loop-k-init c = record {
-  listed = subst (λ at. AreListed (λ has_match. Decides has_match (tree_in c.args.dfa.now)) c.args.block.now c.args.from at 0 c.four_lanes-lanes.new.ends)
+  listed = subst (λ at. AreListed (λ has_match. Decides has_match c.args.dfa.now.tree) c.args.block.now c.args.from at 0 c.four_lanes-lanes.new.ends)
       (sym c.four_chunks-cuts.ensures.cuts.first)
-      (AreListed-none (λ has_match. Decides has_match (tree_in c.args.dfa.now)) c.args.block.now c.args.from c.four_lanes-lanes.new.ends c.requires.within);
+      (AreListed-none (λ has_match. Decides has_match c.args.dfa.now.tree) c.args.block.now c.args.from c.four_lanes-lanes.new.ends c.requires.within);
   room = omega arith;
   pending = refl;
-  right = c.requires.right;
   same = refl;
   rises = omega arith;
   work = omega arith;
@@ -84,7 +82,7 @@ loop-k-preserved c =
     let cuts = c.four_chunks-cuts.result in
     let x = get_or cuts k 0 in
     let y = get_or cuts (k + 1) 0 in
-    let t = tree_in c.args.dfa.now in
+    let t = c.args.dfa.now.tree in
     let first = c.four_lanes-lanes.new.ends in
     let stop = (k + 1) * n in
     let count = c.loop-k.count in
@@ -115,8 +113,9 @@ loop-k-preserved c =
           (omega (arith, chunk.few, len, i.room, next)) listed_to e.most (λ other. e.all other ∙ sym size) in
           let listed : AreListed (λ has_match. Decides has_match t) block x y more own =
           subst (λ k. AreListed (λ has_match. Decides has_match t) block x k more own) full listed_to in
-          let work : w.list_ends-listed.new.steps.count ≤ c.loop-k.steps.count + byte_work (tree_in c.loop-k.dfa) * (y - x) =
-          subst (λ k. w.list_ends-listed.new.steps.count ≤ c.loop-k.steps.count + byte_work (tree_in c.loop-k.dfa) * (k - x)) full e.work.1 in
+          let work : w.list_ends-listed.new.steps.count ≤ c.loop-k.steps.count + byte_work t * (y - x) =
+          subst (λ tree. w.list_ends-listed.new.steps.count ≤ c.loop-k.steps.count + byte_work tree * (y - x)) i.same
+          (subst (λ k. w.list_ends-listed.new.steps.count ≤ c.loop-k.steps.count + byte_work c.loop-k.dfa.tree * (k - x)) full e.work.1.1) in
           let steps = ap (λ (s : Steps). s.count) w.steps-is in
           record {
             listed = subst (λ m. AreListed (λ has_match. Decides has_match t) block c.args.from y m c.if-lane-unknown.ends) (sym w.count-is)
@@ -125,14 +124,10 @@ loop-k-preserved c =
                 (filled old own c.if-lane-unknown.ends count stop low high size is more listed.room));
             room = omega (arith, w.count-is, listed.room, len, low);
             pending = filled-rest old own c.if-lane-unknown.ends count stop low high size is ∙ pending-far old first (k * n) n stop next i.pending;
-            right = subst IsConsistent (sym w.dfa-is) e.dfa.0;
-            same = ap (λ (s : LazyDfa). tree_in s) w.dfa-is ∙ e.dfa.1 ∙ i.same;
-            rises = omega (arith, steps, e.work.0, i.rises);
-            work = work-more (byte_work t + 1) c.args.from x y c.add.new.self.count c.loop-k.steps.count c.if-lane-unknown.steps.count
-                i.listed.lines.low chunk.lines.low i.work
-                (subst (λ s. s ≤ c.loop-k.steps.count + (byte_work t + 1) * (y - x)) (sym steps)
-                (filled-work (byte_work t) (byte_work (tree_in c.loop-k.dfa)) (y - x) c.loop-k.steps.count
-                w.list_ends-listed.new.steps.count (ap (λ tree. byte_work tree) i.same) work));
+            same = ap (λ (s : Dfa). s.tree) w.dfa-is ∙ e.work.0 ∙ i.same;
+            rises = omega (arith, steps, e.work.1.0, i.rises);
+            work = work-more (byte_work t) c.args.from x y c.add.new.self.count c.loop-k.steps.count c.if-lane-unknown.steps.count
+                i.listed.lines.low chunk.lines.low i.work (omega (arith, steps, work));
           }
       | else-lane-unknown w ↦
           let is = c.four_lanes-lanes.ensures.lanes k other c.loop-k-test.true in
@@ -157,12 +152,11 @@ loop-k-preserved c =
             room = omega (arith, w.count-is, i.room, few, next);
             pending = ap (drop stop) w.ends-is
                 ∙ pending-more w.append.new.ends old first (k * n) lane.count n stop few next w.append.ensures.rest i.pending;
-            right = subst IsConsistent (sym w.dfa-is) i.right;
-            same = ap (λ (s : LazyDfa). tree_in s) w.dfa-is ∙ i.same;
+            same = ap (λ (s : Dfa). s.tree) w.dfa-is ∙ i.same;
             rises = omega (arith, steps, w.add-else-lane-unknown.ensures, i.rises);
-            work = work-more (byte_work t + 1) c.args.from x y c.add.new.self.count c.loop-k.steps.count c.if-lane-unknown.steps.count
+            work = work-more (byte_work t) c.args.from x y c.add.new.self.count c.loop-k.steps.count c.if-lane-unknown.steps.count
                 i.listed.lines.low chunk.lines.low i.work
-                (moved-work (byte_work t) (y - x) lane.count c.loop-k.steps.count c.if-lane-unknown.steps.count
+                (moved-work (byte_work t) (y - x) lane.count c.loop-k.steps.count c.if-lane-unknown.steps.count (omega arith)
                 (steps ∙ w.add-else-lane-unknown.ensures) (omega (arith, seen, newlines_within block x y)));
           }
     ]

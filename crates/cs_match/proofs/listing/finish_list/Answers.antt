@@ -2,7 +2,6 @@ use Rattle.std.proofs.Common.{◌≡◌, ◌+◌, ◌-◌, ◌*◌, ◌<◌, ◌
 use Rattle.std.proofs.Common.{inl, inr}
 use Rattle.std.specs.Prelude.{slice_index}
 use Rattle.std.proofs.lemmas.Bool.{cases_lt}
-use Rattle.cs_match.specs.ConsistentDfa.{tree_in}
 use Rattle.cs_match.specs.Deciding.{Decides}
 use Rattle.cs_match.specs.Lanes.{AreListed}
 use Rattle.cs_match.specs.Work.{byte_work}
@@ -30,7 +29,7 @@ list_line-last-requires-clause-line c =
     let e = c.whole_lines_len.ensures in
     let l = c.line_end.ensures in
     open_line c.args.block.now c.args.from c.args.words.to c.whole_lines_len.result (omega (arith, q.moves)) q.high e.within e.whole e.rest
-    (tree_in c.args.dfa.now) c.line_end.result l.low l.high l.part l.newline
+    c.args.dfa.now.tree c.line_end.result l.low l.high l.part l.newline
 
 pub list_line-last-requires-clause-room : goal.list_line-last-requires-clause-room
 list_line-last-requires-clause-room c =
@@ -50,7 +49,7 @@ list_line-last-requires-clause-room c =
       | inl some ↦ some
       | inr all ↦
           let is : count ≡ length ends = omega (arith, all, q.room) in
-          let last = end_below (tree_in c.args.dfa.now) block from (from + size) count ends listed (omega (arith, is, c.requires.room)) in
+          let last = end_below c.args.dfa.now.tree block from (from + size) count ends listed (omega (arith, is, c.requires.room)) in
           let no : ⊥ = omega (arith, last, q.full is, start, c.if-start-words.false) in
           absurd no
     ] in
@@ -68,7 +67,7 @@ returns-then-start-words-clause-lists c =
     let start = open_low block from to size low q.high e.within e.whole e.rest in
     record {
       listed =
-          subst (λ n. AreListed (λ has_match. Decides has_match (tree_in c.args.dfa.now)) block from n c.args.words.count c.args.ends.now)
+          subst (λ n. AreListed (λ has_match. Decides has_match c.args.dfa.now.tree) block from n c.args.words.count c.args.ends.now)
           c.if-start-words.true
           (q.listed (from + size) (open_lines block from to size low q.high e.within e.whole e.rest) start
           (open_part block from to size low q.high e.within e.whole e.rest));
@@ -98,7 +97,7 @@ returns-clause-lists c =
     let len : length later ≡ length old = filled-len old own later count (length old) q.room (omega arith) long refl in
     let all : length own ≡ length old - count = own-len old own later count (length old) q.room (omega arith) long refl in
     record {
-      listed = AreListed-append (λ has_match. Decides has_match (tree_in c.args.dfa.now)) block from (from + size) last.to count last.count
+      listed = AreListed-append (λ has_match. Decides has_match c.args.dfa.now.tree) block from (from + size) last.to count last.count
           old own later listed lists.listed (omega (arith, len, all, lists.listed.room, q.room))
           (filled old own later count (length old) q.room (omega arith) long refl last.count lists.listed.room);
       moves = λ within. omega (arith, c.list_line-last.ensures.all, c.line_end.ensures.low, q.moves);
@@ -107,7 +106,7 @@ returns-clause-lists c =
           elim (cases_lt 0 count) [
             | inl some ↦
                 let is : count ≡ length old = omega (arith, some, q.room, single) in
-                let end = end_below (tree_in c.args.dfa.now) block from (from + size) count old listed some in
+                let end = end_below c.args.dfa.now.tree block from (from + size) count old listed some in
                 let no : ⊥ = omega (arith, end, q.full is, start, c.if-start-words.false) in
                 absurd no
             | inr few ↦
@@ -125,10 +124,13 @@ returns-clause-work c =
     let to = c.args.words.to in
     let size = c.whole_lines_len.result in
     let end = c.line_end.result in
-    let w = byte_work (tree_in c.args.dfa.now) in
+    let w = byte_work c.args.dfa.now.tree in
     let start = open_low c.args.block.now from to size (omega (arith, q.moves)) q.high e.within e.whole e.rest in
     let l = c.list_line-last.ensures in
     let cost = line_cost from (from + size) to end w (omega arith) start c.line_end.ensures.low in (
-      omega (arith, c.add.ensures, c.line_end.ensures.work, l.work.0),
-      omega (arith, c.add.ensures, c.line_end.ensures.work, l.work.1, cost, ap (λ n. (w + 2) * (n - from)) l.all),
+      l.work.0,
+      (
+        omega (arith, c.add.ensures, c.line_end.ensures.work, l.work.1.0),
+        omega (arith, c.add.ensures, c.line_end.ensures.work, l.work.1.1, cost, ap (λ n. (w + 2) * (n - from)) l.all),
+      ),
     )

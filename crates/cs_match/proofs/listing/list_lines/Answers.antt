@@ -1,5 +1,4 @@
 use Rattle.std.proofs.Common.{◌≡◌, ◌+◌, ◌-◌, ◌≤◌, ◌++◌, length, take, drop, refl, sym, ap, subst, ◌∙◌, arith}
-use Rattle.cs_match.specs.ConsistentDfa.{tree_in}
 use Rattle.cs_match.specs.Deciding.{Decides}
 use Rattle.cs_match.specs.Listing.{ListsLines}
 use Rattle.cs_match.specs.Work.{list_work, listed_byte_work}
@@ -11,9 +10,8 @@ use Rattle.cs_match.proofs.listing.list_lines.Goals as goal
 
 pub parts-init : goal.parts-init
 parts-init c = record {
-  listed = AreListed-none (λ has_match. Decides has_match (tree_in c.args.dfa.now)) c.args.block.now c.args.from c.args.ends.now c.requires.within;
+  listed = AreListed-none (λ has_match. Decides has_match c.args.dfa.now.tree) c.args.block.now c.args.from c.args.ends.now c.requires.within;
   one = λ len none. let no : ⊥ = omega (arith, none) in absurd no;
-  right = c.requires.right;
   same = refl;
   rises = omega arith;
   work = omega arith;
@@ -28,7 +26,7 @@ parts-preserved c =
     let i = c.parts.invariant in
     let e = c.list_part-part.ensures in
     let block = c.args.block.now in
-    let t = tree_in c.args.dfa.now in
+    let t = c.args.dfa.now.tree in
     let count = c.parts.count in
     let old = c.parts.ends in
     let own = c.list_part-part.new.ends in
@@ -47,13 +45,12 @@ parts-preserved c =
           let none : count ≡ 0 = omega (arith, c.if-count-room.true, c.max-room.ensures, c.parts.auto.ends, single) in
           let first = first_of_rest old own count none (omega (arith, all, single, none)) in
           lists.one (omega (arith, all, single, none)) (omega (arith, counted, none)) ∙ ap (λ n. n + 1) (sym first);
-      right = e.dfa.0;
-      same = e.dfa.1 ∙ i.same;
-      rises = omega (arith, e.work.0, i.rises);
+      same = e.work.0 ∙ i.same;
+      rises = omega (arith, e.work.1.0, i.rises);
       work = omega (
         arith,
         i.work,
-        e.work.1,
+        e.work.1.1,
         ap (λ tree. list_work tree (part.to - c.parts.to)) i.same,
         work_on c.args.from c.parts.to part.to (listed_byte_work t) i.listed.lines.low lists.listed.lines.low,
       );

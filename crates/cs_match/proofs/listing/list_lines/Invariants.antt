@@ -1,6 +1,5 @@
 use Rattle.std.proofs.Common.{length, ◌-◌, ◌≡◌, ◌≤◌, ◌+◌}
 use Rattle.std.specs.Prelude.{slice_index}
-use Rattle.cs_match.specs.ConsistentDfa.{IsConsistent, tree_in}
 use Rattle.cs_match.specs.Deciding.{Decides}
 use Rattle.cs_match.specs.Lanes.{AreListed}
 use Rattle.cs_match.specs.Work.{list_work}
@@ -8,12 +7,11 @@ use Rattle.cs_match.proofs.listing.list_lines.Given as goal
 
 abbrev pub invariant-parts : goal.invariant-parts
 invariant-parts l = record {
-  listed : AreListed (λ has_match. Decides has_match (tree_in l.fn.dfa)) l.block l.from l.to l.count l.ends;
+  listed : AreListed (λ has_match. Decides has_match l.fn.dfa.tree) l.block l.from l.to l.count l.ends;
   one : length l.ends ≡ 1 → l.count ≡ 1 → l.to ≡ slice_index l.ends 0 + 1;
-  right : IsConsistent l.dfa;
-  same : tree_in l.dfa ≡ tree_in l.fn.dfa;
+  same : l.dfa.tree ≡ l.fn.dfa.tree;
   rises : l.initial.steps.count ≤ l.steps.count;
-  work : l.steps.count ≤ l.initial.steps.count + list_work (tree_in l.fn.dfa) (l.to - l.from);
+  work : l.steps.count ≤ l.initial.steps.count + list_work l.fn.dfa.tree (l.to - l.from);
 }
 
 abbrev pub decreases-parts : goal.decreases-parts

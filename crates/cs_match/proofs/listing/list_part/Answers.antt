@@ -1,8 +1,9 @@
 use Rattle.std.proofs.Common.{◌≡◌, ◌≤◌, ◌+◌, ◌-◌, true, length, sym, ap, subst, ◌∙◌, arith}
 use Rattle.std.specs.Prelude.{List, ℕ}
 use Rattle.cs_prefilter.specs.declared.steps.Steps.{Steps}
-use Rattle.cs_match.specs.ConsistentDfa.{tree_in}
+use Rattle.cs_prefilter.specs.WordAt.{IsPrefilterOf}
 use Rattle.cs_match.specs.Candidates.{IsCandidate}
+use Rattle.cs_match.specs.ConsistentDfa.{Dfa}
 use Rattle.cs_match.specs.Listing.{ListsLines}
 use Rattle.cs_match.specs.Work.{byte_work, list_work, searched_bytes}
 use Rattle.cs_match.specs.declared.dfa.ListedLines.{ListedLines}
@@ -17,16 +18,16 @@ use Rattle.cs_match.proofs.listing.list_part.Goals.{in-Some-line, in-None}
 pub list_line-listed-requires-clause-line : goal.list_line-listed-requires-clause-line
 list_line-listed-requires-clause-line c =
     let e = subst (λ line. IsCandidate c.in-Some.prefilter.now.0 c.args.block.now c.args.from line) c.in-Some-line.is c.next_candidate-candidate.ensures.candidate in
-    line_alone (tree_in c.args.dfa.now) c.args.block.now c.args.from c.in-Some-line.line.start c.in-Some-line.line.end e.line
+    line_alone c.args.dfa.now.tree c.args.block.now c.args.from c.in-Some-line.line.start c.in-Some-line.line.end e.line
 
 pub list-listed-requires-clause-whole : goal.list-listed-requires-clause-whole
 list-listed-requires-clause-whole c = whole_ends c.args.block.now c.args.from c.requires.whole
 
 pub finish_list-requires-clause-listed : goal.finish_list-requires-clause-listed
 finish_list-requires-clause-listed c =
-    let tree = tree_in c.args.dfa.now in
+    let tree = c.args.dfa.now.tree in
     let prefilter = c.in-Some.prefilter.now in
-    let is = c.in-Some.ensures in
+    let is = subst (λ (d : Dfa). IsPrefilterOf d.tree c.in-Some.prefilter.now) c.dfa.view_is c.in-Some.ensures in
     let exact : prefilter.1 ≡ true = sym c.is_exact.ensures ∙ c.if-is_exact.true in
     let within : c.args.from ≤ length c.args.block.now = omega (arith, c.requires.within) in
     let bytes : AreBytes c.args.block.now = λ i. omega (arith, c.type_inv.block i) in
@@ -42,9 +43,9 @@ finish_list-requires-clause-listed c =
 
 pub returns-then-is_exact-clause-work : goal.returns-then-is_exact-clause-work
 returns-then-is_exact-clause-work c =
-    let tree = tree_in c.args.dfa.now in
+    let tree = c.args.dfa.now.tree in
     let prefilter = c.in-Some.prefilter.now in
-    let is = c.in-Some.ensures in
+    let is = subst (λ (d : Dfa). IsPrefilterOf d.tree c.in-Some.prefilter.now) c.dfa.view_is c.in-Some.ensures in
     let exact : prefilter.1 ≡ true = sym c.is_exact.ensures ∙ c.if-is_exact.true in
     let bytes : AreBytes c.args.block.now = λ i. omega (arith, c.type_inv.block i) in
     let e = c.list-listed.ensures in
@@ -54,16 +55,16 @@ returns-then-is_exact-clause-work c =
     let moves = e.moves c.requires.within in
     let cost = words_cost (words.to - c.args.from) (c.finish_list.result.to - c.args.from) words.count (byte_work tree)
     (omega (arith, moves)) (omega (arith, f.all)) few in (
-      omega (arith, e.work.0, f.work.0),
-      omega (arith, e.work.1, f.work.1, cost),
+      f.work.0,
+      (omega (arith, e.work.0, f.work.1.0), omega (arith, e.work.1, f.work.1.1, cost)),
     )
 
 pub returns-clause-lists : goal.returns-clause-lists
 returns-clause-lists c =
-    let tree = tree_in c.args.dfa.now in
+    let tree = c.args.dfa.now.tree in
     let words = c.in-Some.prefilter.now.0 in
     let block = c.args.block.now in
-    let is = c.in-Some.ensures in
+    let is = subst (λ (d : Dfa). IsPrefilterOf d.tree c.in-Some.prefilter.now) c.dfa.view_is c.in-Some.ensures in
     elim c.match-candidate.branch [
       | in-Some-line w ↦
           let line = w.in-Some-line.line in
@@ -85,7 +86,7 @@ returns-clause-lists c =
 
 pub returns-clause-work : goal.returns-clause-work
 returns-clause-work c =
-    let tree = tree_in c.args.dfa.now in
+    let tree = c.args.dfa.now.tree in
     let words = c.in-Some.prefilter.now.0 in
     let block = c.args.block.now in
     let candidate = c.next_candidate-candidate.ensures in
@@ -97,29 +98,35 @@ returns-clause-work c =
           let steps = ap (λ (s : Steps). s.count) w.steps-is in
           let to : c.match-candidate.listed.to ≡ line.end + 1 = ap (λ (l : ListedLines). l.to) w.listed-is ∙ w.list_line-listed.ensures.all in
           let cost = candidate_cost c.args.from line.start line.end (byte_work tree) e.line.low e.line.order in (
-            omega (arith, steps, candidate.work.0, w.list_line-listed.ensures.work.0),
-            omega (
-              arith,
-              steps,
-              bytes,
-              candidate.work.1,
-              w.list_line-listed.ensures.work.1,
-              cost,
-              ap (λ n. list_work tree (n - c.args.from)) to,
+            ap (λ (d : Dfa). d.tree) w.dfa-is ∙ w.list_line-listed.ensures.work.0,
+            (
+              omega (arith, steps, candidate.work.0, w.list_line-listed.ensures.work.1.0),
+              omega (
+                arith,
+                steps,
+                bytes,
+                candidate.work.1,
+                w.list_line-listed.ensures.work.1.1,
+                cost,
+                ap (λ n. list_work tree (n - c.args.from)) to,
+              ),
             ),
           )
       | in-None w ↦
           let bytes = ap (searched_bytes c.args.from (length block)) w.in-None.is in
           let steps = ap (λ (s : Steps). s.count) w.steps-is in
           let to : c.match-candidate.listed.to ≡ length block = ap (λ (l : ListedLines). l.to) w.listed-is in (
-            omega (arith, steps, candidate.work.0),
-            omega (
-              arith,
-              steps,
-              bytes,
-              candidate.work.1,
-              skipped_cost (length block - c.args.from) (byte_work tree),
-              ap (λ n. list_work tree (n - c.args.from)) to,
+            ap (λ (d : Dfa). d.tree) w.dfa-is,
+            (
+              omega (arith, steps, candidate.work.0),
+              omega (
+                arith,
+                steps,
+                bytes,
+                candidate.work.1,
+                skipped_cost (length block - c.args.from) (byte_work tree),
+                ap (λ n. list_work tree (n - c.args.from)) to,
+              ),
             ),
           )
     ]

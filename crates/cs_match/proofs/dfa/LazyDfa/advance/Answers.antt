@@ -1,12 +1,11 @@
 use Rattle.std.proofs.Common.{◌≡◌, ◌≢◌, ◌+◌, ◌-◌, ◌*◌, ◌<◌, ◌≤◌, ℕ, drop, length, refl, sym, ap, subst, ◌∙◌, arith, inl, inr}
 use Rattle.std.proofs.lemmas.Bool.{cases_lt, eqb-true, eq-eqb, false≢true}
-use Rattle.cs_match.specs.declared.dfa.LazyDfa.{LazyDfa}
-use Rattle.cs_match.specs.ConsistentDfa.{IsKnown, tree_in, count_in}
+use Rattle.cs_match.specs.ConsistentDfa.{Dfa, IsConsistent, IsKnown, count_in}
 use Rattle.cs_match.specs.LazyDfa.{match_number, dead_number, start_number}
 use Rattle.cs_match.specs.Scanned.{HasScanned, ListsLine}
 use Rattle.cs_match.specs.Work.{byte_work}
 use Rattle.cs_match.proofs.DfaScanLemmas.{lists_none, over_byte, before_newline, over_match, over_dead}
-use Rattle.cs_match.proofs.KnownScanLemmas.{known_on, known_next, known_match, known_dead}
+use Rattle.cs_match.proofs.KnownScanLemmas.{rest_bytes, known_here, known_match, known_dead}
 use Rattle.cs_match.proofs.PositionCountLemmas.{scaled}
 use Rattle.cs_match.proofs.TransitionLemmas.{some_classes}
 use Rattle.cs_match.proofs.WholeLineLemmas.{whole_from}
@@ -23,19 +22,20 @@ enough w known rest bytes some size =
 
 pub returns-then-known-text-clause-lists : goal.returns-then-known-text-clause-lists
 returns-then-known-text-clause-lists c =
-    lists_none (tree_in c.args.self.now) c.args.text.now c.args.scan c.follow_known-known.result c.follow_known-known.ensures.passes
+    lists_none c.args.self.now.tree c.args.text.now c.args.scan c.follow_known-known.result c.follow_known-known.ensures.passes
     (omega (arith, c.if-known-text.true, c.requires.within))
 
-pub next-number-requires-clause-number : goal.next-number-requires-clause-number
-next-number-requires-clause-number c = (_, c.follow_known-known.ensures.scanned.at)
+pub next-number-requires : goal.next-number-requires
+next-number-requires c = record { number = (_, c.follow_known-known.ensures.scanned.at) }
 
 pub line_end-requires-clause-within : goal.line_end-requires-clause-within
 line_end-requires-clause-within c =
     let known = c.follow_known-known in
     let next = c.next-number in
-    let is : next.result ≡ match_number (count_in next.new.self) = eqb-true next.result _ (sym c.is_matched.ensures ∙ c.if-is_matched.true) in
-    let some = some_classes (tree_in next.new.self) next.new.self.states.classes next.ensures.dfa.0.classes in
-    before_newline c.args.self.now next.new.self next.ensures.dfa.1 next.ensures.dfa.0 c.args.text.now c.args.scan known.result
+    let right = subst (λ (d : Dfa). IsConsistent d.tree d.states) c.self.view_is c.self.invariant in
+    let is : next.result ≡ match_number (count_in next.new.self) = c.if-number-count.true ∙ ap (λ (d : Dfa). match_number (count_in d)) c.self.view_is in
+    let some = some_classes next.new.self.tree next.new.self.states.classes right.classes in
+    before_newline c.args.self.now next.new.self next.ensures.work.0 right c.args.text.now c.args.scan known.result
     known.ensures.passes known.ensures.low known.ensures.scanned (before_end known.result.to _ known.ensures.scanned.within c.if-known-text.false)
     next.result (next.ensures.leads _ known.ensures.scanned.at) c.requires.whole
     (λ e. omega (arith, e, is, some)) (λ e. omega (arith, e, is, some))
@@ -44,97 +44,108 @@ pub line_end-requires-clause-whole : goal.line_end-requires-clause-whole
 line_end-requires-clause-whole c = whole_from c.args.text.now c.args.scan.from (c.follow_known-known.result.to + 1)
     (omega (arith, c.follow_known-known.ensures.scanned.low, c.follow_known-known.ensures.passes.from)) c.requires.whole
 
-pub returns-then-is_matched-clause-lists : goal.returns-then-is_matched-clause-lists
-returns-then-is_matched-clause-lists c =
+pub returns-then-number-count-clause-lists : goal.returns-then-number-count-clause-lists
+returns-then-number-count-clause-lists c =
     let known = c.follow_known-known in
     let next = c.next-number in
+    let right = subst (λ (d : Dfa). IsConsistent d.tree d.states) c.self.view_is c.self.invariant in
     let line = c.line_end.ensures in
-    let is : next.result ≡ match_number (count_in next.new.self) = eqb-true next.result _ (sym c.is_matched.ensures ∙ c.if-is_matched.true) in
-    (over_match c.args.self.now next.new.self next.ensures.dfa.1 next.ensures.dfa.0 c.args.text.now c.args.scan known.result
+    let is : next.result ≡ match_number (count_in next.new.self) = c.if-number-count.true ∙ ap (λ (d : Dfa). match_number (count_in d)) c.self.view_is in
+    (over_match c.args.self.now next.new.self next.ensures.work.0 right c.args.text.now c.args.scan known.result
     known.ensures.passes known.ensures.low known.ensures.scanned (before_end known.result.to _ known.ensures.scanned.within c.if-known-text.false)
     next.result (next.ensures.leads _ known.ensures.scanned.at) c.line_end.result line.low line.high line.part line.newline is).1
 
-pub returns-then-is_matched-clause-scanned : goal.returns-then-is_matched-clause-scanned
-returns-then-is_matched-clause-scanned c =
+pub returns-then-number-count-clause-scanned : goal.returns-then-number-count-clause-scanned
+returns-then-number-count-clause-scanned c =
     let known = c.follow_known-known in
     let next = c.next-number in
+    let right = subst (λ (d : Dfa). IsConsistent d.tree d.states) c.self.view_is c.self.invariant in
     let line = c.line_end.ensures in
-    let is : next.result ≡ match_number (count_in next.new.self) = eqb-true next.result _ (sym c.is_matched.ensures ∙ c.if-is_matched.true) in
-    (over_match c.args.self.now next.new.self next.ensures.dfa.1 next.ensures.dfa.0 c.args.text.now c.args.scan known.result
+    let is : next.result ≡ match_number (count_in next.new.self) = c.if-number-count.true ∙ ap (λ (d : Dfa). match_number (count_in d)) c.self.view_is in
+    (over_match c.args.self.now next.new.self next.ensures.work.0 right c.args.text.now c.args.scan known.result
     known.ensures.passes known.ensures.low known.ensures.scanned (before_end known.result.to _ known.ensures.scanned.within c.if-known-text.false)
     next.result (next.ensures.leads _ known.ensures.scanned.at) c.line_end.result line.low line.high line.part line.newline is).0
 
-pub returns-then-is_matched-clause-work : goal.returns-then-is_matched-clause-work
-returns-then-is_matched-clause-work c =
+pub returns-then-number-count-clause-work : goal.returns-then-number-count-clause-work
+returns-then-number-count-clause-work c =
     let known = c.follow_known-known in
     let to = known.result.to in
     let end = c.line_end.result in
-    let w = byte_work (tree_in c.args.self.now) in (
-      omega (arith, c.add.ensures, c.next-number.ensures.work.0, c.line_end.ensures.work),
-      omega (
-        arith,
-        c.add.ensures,
-        c.next-number.ensures.work.1,
-        c.line_end.ensures.work,
-        c.line_end.ensures.low,
-        enough w (to - c.args.scan.to) (end - to) (end + 1 - c.args.scan.to) (omega arith) (omega (arith, known.ensures.low, c.line_end.ensures.low)),
+    let w = byte_work c.args.self.now.tree in (
+      c.next-number.ensures.work.0,
+      (
+        omega (arith, c.add.ensures, c.next-number.ensures.work.1.0, c.line_end.ensures.work),
+        omega (
+          arith,
+          c.add.ensures,
+          c.next-number.ensures.work.1.1,
+          c.line_end.ensures.work,
+          c.line_end.ensures.low,
+          enough w (to - c.args.scan.to) (end - to) (end + 1 - c.args.scan.to) (omega arith) (omega (arith, known.ensures.low, c.line_end.ensures.low)),
+        ),
       ),
     )
 
-pub line_end-requires-then-is_dead-clause-within : goal.line_end-requires-then-is_dead-clause-within
-line_end-requires-then-is_dead-clause-within c =
+pub line_end-requires-then-number-dead-clause-within : goal.line_end-requires-then-number-dead-clause-within
+line_end-requires-then-number-dead-clause-within c =
     let known = c.follow_known-known in
     let next = c.next-number in
-    let is : next.result ≡ dead_number (count_in next.new.self) = eqb-true next.result _ (sym c.is_dead.ensures ∙ c.if-is_dead.true) in
-    let some = some_classes (tree_in next.new.self) next.new.self.states.classes next.ensures.dfa.0.classes in
-    before_newline c.args.self.now next.new.self next.ensures.dfa.1 next.ensures.dfa.0 c.args.text.now c.args.scan known.result
+    let right = subst (λ (d : Dfa). IsConsistent d.tree d.states) c.self.view_is c.self.invariant in
+    let is : next.result ≡ dead_number (count_in next.new.self) = c.if-number-dead.true ∙ ap (λ (d : Dfa). dead_number (count_in d)) c.self.view_is in
+    let some = some_classes next.new.self.tree next.new.self.states.classes right.classes in
+    before_newline c.args.self.now next.new.self next.ensures.work.0 right c.args.text.now c.args.scan known.result
     known.ensures.passes known.ensures.low known.ensures.scanned (before_end known.result.to _ known.ensures.scanned.within c.if-known-text.false)
     next.result (next.ensures.leads _ known.ensures.scanned.at) c.requires.whole
     (λ e. omega (arith, e, is, some)) (λ e. omega (arith, e, is, some))
 
-pub line_end-requires-then-is_dead-clause-whole : goal.line_end-requires-then-is_dead-clause-whole
-line_end-requires-then-is_dead-clause-whole c = whole_from c.args.text.now c.args.scan.from (c.follow_known-known.result.to + 1)
+pub line_end-requires-then-number-dead-clause-whole : goal.line_end-requires-then-number-dead-clause-whole
+line_end-requires-then-number-dead-clause-whole c = whole_from c.args.text.now c.args.scan.from (c.follow_known-known.result.to + 1)
     (omega (arith, c.follow_known-known.ensures.scanned.low, c.follow_known-known.ensures.passes.from)) c.requires.whole
 
-pub returns-then-is_dead-clause-lists : goal.returns-then-is_dead-clause-lists
-returns-then-is_dead-clause-lists c =
+pub returns-then-number-dead-clause-lists : goal.returns-then-number-dead-clause-lists
+returns-then-number-dead-clause-lists c =
     let known = c.follow_known-known in
     let next = c.next-number in
-    let line = c.line_end-then-is_dead.ensures in
-    let is : next.result ≡ dead_number (count_in next.new.self) = eqb-true next.result _ (sym c.is_dead.ensures ∙ c.if-is_dead.true) in
-    subst (λ number. ListsLine (tree_in c.args.self.now) c.args.text.now c.args.scan
-    (record { from = known.result.from; to = c.line_end-then-is_dead.result + 1; number = number })) (sym c.start.ensures.number)
-    (over_dead c.args.self.now next.new.self next.ensures.dfa.1 next.ensures.dfa.0 c.args.text.now c.args.scan known.result
+    let right = subst (λ (d : Dfa). IsConsistent d.tree d.states) c.self.view_is c.self.invariant in
+    let line = c.line_end-then-number-dead.ensures in
+    let is : next.result ≡ dead_number (count_in next.new.self) = c.if-number-dead.true ∙ ap (λ (d : Dfa). dead_number (count_in d)) c.self.view_is in
+    subst (λ number. ListsLine c.args.self.now.tree c.args.text.now c.args.scan
+    (record { from = known.result.from; to = c.line_end-then-number-dead.result + 1; number = number })) (sym (ap (λ (d : Dfa). start_number (count_in d)) c.self.view_is))
+    (over_dead c.args.self.now next.new.self next.ensures.work.0 right c.args.text.now c.args.scan known.result
     known.ensures.passes known.ensures.low known.ensures.scanned (before_end known.result.to _ known.ensures.scanned.within c.if-known-text.false)
-    next.result (next.ensures.leads _ known.ensures.scanned.at) c.line_end-then-is_dead.result line.low line.high line.part line.newline is).1
+    next.result (next.ensures.leads _ known.ensures.scanned.at) c.line_end-then-number-dead.result line.low line.high line.part line.newline is).1
 
-pub returns-then-is_dead-clause-scanned : goal.returns-then-is_dead-clause-scanned
-returns-then-is_dead-clause-scanned c =
+pub returns-then-number-dead-clause-scanned : goal.returns-then-number-dead-clause-scanned
+returns-then-number-dead-clause-scanned c =
     let known = c.follow_known-known in
     let next = c.next-number in
-    let line = c.line_end-then-is_dead.ensures in
-    let is : next.result ≡ dead_number (count_in next.new.self) = eqb-true next.result _ (sym c.is_dead.ensures ∙ c.if-is_dead.true) in
+    let right = subst (λ (d : Dfa). IsConsistent d.tree d.states) c.self.view_is c.self.invariant in
+    let line = c.line_end-then-number-dead.ensures in
+    let is : next.result ≡ dead_number (count_in next.new.self) = c.if-number-dead.true ∙ ap (λ (d : Dfa). dead_number (count_in d)) c.self.view_is in
     subst (λ number. HasScanned next.new.self c.args.text.now
-    (record { from = known.result.from; to = c.line_end-then-is_dead.result + 1; number = number })) (sym c.start.ensures.number)
-    (over_dead c.args.self.now next.new.self next.ensures.dfa.1 next.ensures.dfa.0 c.args.text.now c.args.scan known.result
+    (record { from = known.result.from; to = c.line_end-then-number-dead.result + 1; number = number })) (sym (ap (λ (d : Dfa). start_number (count_in d)) c.self.view_is))
+    (over_dead c.args.self.now next.new.self next.ensures.work.0 right c.args.text.now c.args.scan known.result
     known.ensures.passes known.ensures.low known.ensures.scanned (before_end known.result.to _ known.ensures.scanned.within c.if-known-text.false)
-    next.result (next.ensures.leads _ known.ensures.scanned.at) c.line_end-then-is_dead.result line.low line.high line.part line.newline is).0
+    next.result (next.ensures.leads _ known.ensures.scanned.at) c.line_end-then-number-dead.result line.low line.high line.part line.newline is).0
 
-pub returns-then-is_dead-clause-work : goal.returns-then-is_dead-clause-work
-returns-then-is_dead-clause-work c =
+pub returns-then-number-dead-clause-work : goal.returns-then-number-dead-clause-work
+returns-then-number-dead-clause-work c =
     let known = c.follow_known-known in
     let to = known.result.to in
-    let line = c.line_end-then-is_dead in
+    let line = c.line_end-then-number-dead in
     let end = line.result in
-    let w = byte_work (tree_in c.args.self.now) in (
-      omega (arith, c.add.ensures, c.next-number.ensures.work.0, line.ensures.work),
-      omega (
-        arith,
-        c.add.ensures,
-        c.next-number.ensures.work.1,
-        line.ensures.work,
-        line.ensures.low,
-        enough w (to - c.args.scan.to) (end - to) (end + 1 - c.args.scan.to) (omega arith) (omega (arith, known.ensures.low, line.ensures.low)),
+    let w = byte_work c.args.self.now.tree in (
+      c.next-number.ensures.work.0,
+      (
+        omega (arith, c.add.ensures, c.next-number.ensures.work.1.0, line.ensures.work),
+        omega (
+          arith,
+          c.add.ensures,
+          c.next-number.ensures.work.1.1,
+          line.ensures.work,
+          line.ensures.low,
+          enough w (to - c.args.scan.to) (end - to) (end + 1 - c.args.scan.to) (omega arith) (omega (arith, known.ensures.low, line.ensures.low)),
+        ),
       ),
     )
 
@@ -142,9 +153,10 @@ pub returns-clause-lists : goal.returns-clause-lists
 returns-clause-lists c =
     let known = c.follow_known-known in
     let next = c.next-number in
+    let right = subst (λ (d : Dfa). IsConsistent d.tree d.states) c.self.view_is c.self.invariant in
     let other : next.result ≢ match_number (count_in next.new.self) =
-    λ e. false≢true (sym c.if-is_matched.false ∙ c.is_matched.ensures ∙ eq-eqb next.result _ e) in
-    (over_byte c.args.self.now next.new.self next.ensures.dfa.1 next.ensures.dfa.0 c.args.text.now c.args.scan known.result
+    λ e. c.if-number-count.false (e ∙ sym (ap (λ (d : Dfa). match_number (count_in d)) c.self.view_is)) in
+    (over_byte c.args.self.now next.new.self next.ensures.work.0 right c.args.text.now c.args.scan known.result
     known.ensures.passes known.ensures.low known.ensures.scanned (before_end known.result.to _ known.ensures.scanned.within c.if-known-text.false)
     next.result (next.ensures.leads _ known.ensures.scanned.at) other).1
 
@@ -152,9 +164,10 @@ pub returns-clause-scanned : goal.returns-clause-scanned
 returns-clause-scanned c =
     let known = c.follow_known-known in
     let next = c.next-number in
+    let right = subst (λ (d : Dfa). IsConsistent d.tree d.states) c.self.view_is c.self.invariant in
     let other : next.result ≢ match_number (count_in next.new.self) =
-    λ e. false≢true (sym c.if-is_matched.false ∙ c.is_matched.ensures ∙ eq-eqb next.result _ e) in
-    (over_byte c.args.self.now next.new.self next.ensures.dfa.1 next.ensures.dfa.0 c.args.text.now c.args.scan known.result
+    λ e. c.if-number-count.false (e ∙ sym (ap (λ (d : Dfa). match_number (count_in d)) c.self.view_is)) in
+    (over_byte c.args.self.now next.new.self next.ensures.work.0 right c.args.text.now c.args.scan known.result
     known.ensures.passes known.ensures.low known.ensures.scanned (before_end known.result.to _ known.ensures.scanned.within c.if-known-text.false)
     next.result (next.ensures.leads _ known.ensures.scanned.at) other).0
 
@@ -162,13 +175,16 @@ pub returns-clause-work : goal.returns-clause-work
 returns-clause-work c =
     let known = c.follow_known-known in
     let to = known.result.to in
-    let w = byte_work (tree_in c.args.self.now) in (
-      omega (arith, c.add.ensures, c.next-number.ensures.work.0),
-      omega (
-        arith,
-        c.add.ensures,
-        c.next-number.ensures.work.1,
-        enough w (to - c.args.scan.to) 0 (to + 1 - c.args.scan.to) (omega arith) (omega (arith, known.ensures.low)),
+    let w = byte_work c.args.self.now.tree in (
+      c.next-number.ensures.work.0,
+      (
+        omega (arith, c.add.ensures, c.next-number.ensures.work.1.0),
+        omega (
+          arith,
+          c.add.ensures,
+          c.next-number.ensures.work.1.1,
+          enough w (to - c.args.scan.to) 0 (to + 1 - c.args.scan.to) (omega arith) (omega (arith, known.ensures.low)),
+        ),
       ),
     )
 
@@ -183,62 +199,56 @@ returns-clause-known c = λ h.
     let known = c.follow_known-known in
     let to = known.result.to in
     let next = c.next-number in
+    let right = subst (λ (d : Dfa). IsConsistent d.tree d.states) c.self.view_is c.self.invariant in
     let within : to < length text = before_end to _ known.ensures.scanned.within c.if-known-text.false in
     let given = known.ensures.known h in
-    let step = next.ensures.known (known_next s c.requires.right text c.type_inv.text to known.result.number within given) in
-    let on : IsKnown s next.result (drop (to + 1) text) = subst (λ n. IsKnown s n (drop (to + 1) text)) (sym step.1)
-    (known_on s c.requires.right text c.type_inv.text to known.result.number within given) in
+    let step = next.ensures.known (drop (to + 1) text) (rest_bytes text c.type_inv.text (to + 1))
+    (known_here s text to known.result.number within given) in
     record {
       same = step.0;
-      known = subst (λ (d : LazyDfa). IsKnown d next.result (drop (to + 1) text)) (sym step.0) on;
+      known = step.1;
       work = omega (arith, step.2, c.add.ensures, known.ensures.low);
     }
 
-pub returns-then-is_matched-clause-known : goal.returns-then-is_matched-clause-known
-returns-then-is_matched-clause-known c = λ h.
+pub returns-then-number-count-clause-known : goal.returns-then-number-count-clause-known
+returns-then-number-count-clause-known c = λ h.
     let s = c.args.self.now in
     let text = c.args.text.now in
     let known = c.follow_known-known in
     let to = known.result.to in
     let next = c.next-number in
+    let right = subst (λ (d : Dfa). IsConsistent d.tree d.states) c.self.view_is c.self.invariant in
     let end = c.line_end.result in
     let line = c.line_end.ensures in
     let within : to < length text = before_end to _ known.ensures.scanned.within c.if-known-text.false in
     let given = known.ensures.known h in
-    let step = next.ensures.known (known_next s c.requires.right text c.type_inv.text to known.result.number within given) in
-    let on : IsKnown s next.result (drop (to + 1) text) = subst (λ n. IsKnown s n (drop (to + 1) text)) (sym step.1)
-    (known_on s c.requires.right text c.type_inv.text to known.result.number within given) in
-    let is : next.result ≡ match_number (count_in next.new.self) = eqb-true next.result _ (sym c.is_matched.ensures ∙ c.if-is_matched.true) in
-    let there : IsKnown s 0 (drop (end + 1) text) =
-    known_match s c.requires.right text c.type_inv.text (to + 1) end line.low line.part line.newline next.result
-    (is ∙ ap (λ (d : LazyDfa). match_number (count_in d)) step.0) on in
+    let step = next.ensures.known (drop (to + 1) text) (rest_bytes text c.type_inv.text (to + 1))
+    (known_here s text to known.result.number within given) in
+    let is : next.result ≡ match_number (count_in next.new.self) = c.if-number-count.true ∙ ap (λ (d : Dfa). match_number (count_in d)) c.self.view_is in
     record {
       same = step.0;
-      known = subst (λ (d : LazyDfa). IsKnown d 0 (drop (end + 1) text)) (sym step.0) there;
+      known = known_match next.new.self right text c.type_inv.text (to + 1) end line.low line.part line.newline next.result is step.1;
       work = omega (arith, step.2, c.add.ensures, known.ensures.low, line.work, line.low);
     }
 
-pub returns-then-is_dead-clause-known : goal.returns-then-is_dead-clause-known
-returns-then-is_dead-clause-known c = λ h.
+pub returns-then-number-dead-clause-known : goal.returns-then-number-dead-clause-known
+returns-then-number-dead-clause-known c = λ h.
     let s = c.args.self.now in
     let text = c.args.text.now in
     let known = c.follow_known-known in
     let to = known.result.to in
     let next = c.next-number in
-    let end = c.line_end-then-is_dead.result in
-    let line = c.line_end-then-is_dead.ensures in
+    let right = subst (λ (d : Dfa). IsConsistent d.tree d.states) c.self.view_is c.self.invariant in
+    let end = c.line_end-then-number-dead.result in
+    let line = c.line_end-then-number-dead.ensures in
     let within : to < length text = before_end to _ known.ensures.scanned.within c.if-known-text.false in
     let given = known.ensures.known h in
-    let step = next.ensures.known (known_next s c.requires.right text c.type_inv.text to known.result.number within given) in
-    let on : IsKnown s next.result (drop (to + 1) text) = subst (λ n. IsKnown s n (drop (to + 1) text)) (sym step.1)
-    (known_on s c.requires.right text c.type_inv.text to known.result.number within given) in
-    let is : next.result ≡ dead_number (count_in next.new.self) = eqb-true next.result _ (sym c.is_dead.ensures ∙ c.if-is_dead.true) in
-    let there : IsKnown s (start_number (count_in s)) (drop (end + 1) text) =
-    known_dead s c.requires.right text c.type_inv.text (to + 1) end line.low line.part line.newline next.result
-    (is ∙ ap (λ (d : LazyDfa). dead_number (count_in d)) step.0) on in
+    let step = next.ensures.known (drop (to + 1) text) (rest_bytes text c.type_inv.text (to + 1))
+    (known_here s text to known.result.number within given) in
+    let is : next.result ≡ dead_number (count_in next.new.self) = c.if-number-dead.true ∙ ap (λ (d : Dfa). dead_number (count_in d)) c.self.view_is in
     record {
       same = step.0;
-      known = subst (λ n. IsKnown next.new.self n (drop (end + 1) text)) (sym c.start.ensures.number)
-          (subst (λ (d : LazyDfa). IsKnown d (start_number (count_in d)) (drop (end + 1) text)) (sym step.0) there);
+      known = subst (λ n. IsKnown next.new.self n (drop (end + 1) text)) (sym (ap (λ (d : Dfa). start_number (count_in d)) c.self.view_is))
+          (known_dead next.new.self right text c.type_inv.text (to + 1) end line.low line.part line.newline next.result is step.1);
       work = omega (arith, step.2, c.add.ensures, known.ensures.low, line.work, line.low);
     }

@@ -2,7 +2,7 @@ use Rattle.std.proofs.Common.{◌≡◌, ◌+◌, ◌-◌, ◌*◌, ◌≤◌, �
 use Rattle.std.proofs.Math.ListN.{length-set}
 use Rattle.std.proofs.lemmas.List.{length-take-le}
 use Rattle.cs_syntax.specs.Matching.{Tree}
-use Rattle.cs_match.specs.ConsistentDfa.{IsKnown, tree_in, count_in}
+use Rattle.cs_match.specs.ConsistentDfa.{Dfa, IsKnown, count_in}
 use Rattle.cs_match.specs.LazyDfa.{start_number}
 use Rattle.cs_match.specs.MatchingEnds.{matching_ends, newlines_between}
 use Rattle.cs_match.specs.Scanned.{ListsLine}
@@ -12,25 +12,26 @@ use Rattle.cs_match.proofs.ChunkLemmas.{work-more}
 use Rattle.cs_match.proofs.ListEndLemmas.{listed_found, few_found, whole_found, stops_found, listed_other, few_other, slice_same, rest_same, AreListed-part}
 use Rattle.cs_match.proofs.MatchingEndLemmas.{ends-none}
 use Rattle.cs_match.proofs.DfaScanLemmas.{scanned_none}
+use Rattle.cs_match.proofs.TransitionLemmas.{stands_start}
 use Rattle.cs_match.proofs.dfa.LazyDfa.list_ends.Goals as goal
 
 pub scan-init : goal.scan-init
 scan-init c =
     let s = c.args.self.now in
+    let t : Dfa = record { tree = c.self.inside.program.now; states = c.self.inside.states } in
     let from = c.args.part.start in
     let text : List ℕ = take c.args.part.end c.args.block.now in
     record {
       from = refl;
-      right = c.requires.right;
       same = refl;
-      scanned = scanned_none s text from c.start.result
+      scanned = rw (← c.self.view_is) (scanned_none t text from (start_number (count_in t))
           (omega (arith, c.requires.lines.low, c.requires.lines.high, length-take-le c.args.part.end c.args.block.now c.requires.lines.high))
-          c.start.ensures.state;
+          (stands_start t.tree (count_in t) t.states.cached c.self.invariant.cached));
       listed = λ has_match decides. sym (ends-none has_match text from);
       few = omega arith;
       room = omega arith;
       stops = λ none. absurd (omega (arith, none, c.requires.room));
-      known = λ h. (refl, subst (λ n. IsKnown s n (drop from text)) (sym c.start.ensures.number) h, omega arith);
+      known = λ h. (refl, subst (λ n. IsKnown s n (drop from text)) (ap (λ (d : Dfa). start_number (count_in d)) (sym c.self.view_is)) h, omega arith);
       rises = omega arith;
       work = omega arith;
     }
@@ -45,7 +46,7 @@ pub scan-preserved-then-scan-eq-FOUND : goal.scan-preserved-then-scan-eq-FOUND
 scan-preserved-then-scan-eq-FOUND c =
     let i = c.scan.invariant in
     let e = c.advance-scan.ensures in
-    let t = tree_in c.args.self.now in
+    let t = c.args.self.now.tree in
     let text : List ℕ = take c.args.part.end c.args.block.now in
     let old = c.scan.scan in
     let new = c.advance-scan.result in
@@ -54,8 +55,7 @@ scan-preserved-then-scan-eq-FOUND c =
     let room = c.if-count-ends.true in
     record {
       from = lists.from ∙ i.from;
-      right = e.dfa.0;
-      same = e.dfa.1 ∙ i.same;
+      same = e.work.0 ∙ i.same;
       scanned = e.scanned;
       listed = listed_found t text old new lists i.scanned.low e.scanned.within c.scan.count c.scan.ends i.few i.listed found room;
       few = few_found t text old new lists i.scanned.low e.scanned.within c.scan.count c.scan.ends i.few i.listed found room;
@@ -68,18 +68,18 @@ scan-preserved-then-scan-eq-FOUND c =
           let before = i.known h in
           let after = e.known before.1 in
           (after.same ∙ before.0, after.known, omega (arith, after.work, before.2, lists.from, lists.moves, i.scanned.low));
-      rises = omega (arith, i.rises, e.work.0);
+      rises = omega (arith, i.rises, e.work.1.0);
       work = subst (λ from. c.advance-scan.new.steps.count ≤ c.args.steps.now.count + byte_work t * (new.to - from)) (sym lists.from)
           (work-more (byte_work t) old.from old.to new.to c.args.steps.now.count c.scan.steps.count c.advance-scan.new.steps.count
           i.scanned.low (omega (arith, lists.moves)) i.work
-          (subst (λ (u : Tree). c.advance-scan.new.steps.count ≤ c.scan.steps.count + byte_work u * (new.to - old.to)) i.same e.work.1));
+          (subst (λ (u : Tree). c.advance-scan.new.steps.count ≤ c.scan.steps.count + byte_work u * (new.to - old.to)) i.same e.work.1.1));
     }
 
 pub scan-preserved : goal.scan-preserved
 scan-preserved c =
     let i = c.scan.invariant in
     let e = c.advance-scan.ensures in
-    let t = tree_in c.args.self.now in
+    let t = c.args.self.now.tree in
     let text : List ℕ = take c.args.part.end c.args.block.now in
     let old = c.scan.scan in
     let new = c.advance-scan.result in
@@ -87,8 +87,7 @@ scan-preserved c =
     let other = c.if-scan-eq-FOUND.false in
     record {
       from = lists.from ∙ i.from;
-      right = e.dfa.0;
-      same = e.dfa.1 ∙ i.same;
+      same = e.work.0 ∙ i.same;
       scanned = e.scanned;
       listed = listed_other t text old new lists i.scanned.low e.scanned.within c.scan.count c.scan.ends i.few i.listed other;
       few = few_other t text old new lists i.scanned.low e.scanned.within c.scan.count c.scan.ends i.few i.listed other;
@@ -98,11 +97,11 @@ scan-preserved c =
           let before = i.known h in
           let after = e.known before.1 in
           (after.same ∙ before.0, after.known, omega (arith, after.work, before.2, lists.from, lists.moves, i.scanned.low));
-      rises = omega (arith, i.rises, e.work.0);
+      rises = omega (arith, i.rises, e.work.1.0);
       work = subst (λ from. c.advance-scan.new.steps.count ≤ c.args.steps.now.count + byte_work t * (new.to - from)) (sym lists.from)
           (work-more (byte_work t) old.from old.to new.to c.args.steps.now.count c.scan.steps.count c.advance-scan.new.steps.count
           i.scanned.low (omega (arith, lists.moves)) i.work
-          (subst (λ (u : Tree). c.advance-scan.new.steps.count ≤ c.scan.steps.count + byte_work u * (new.to - old.to)) i.same e.work.1));
+          (subst (λ (u : Tree). c.advance-scan.new.steps.count ≤ c.scan.steps.count + byte_work u * (new.to - old.to)) i.same e.work.1.1));
     }
 
 pub returns-else-count-ends-clause-listed : goal.returns-else-count-ends-clause-listed
@@ -114,7 +113,7 @@ returns-else-count-ends-clause-listed c =
     let to = c.scan.scan.to in
     let text : List ℕ = take end block in
     let full : c.scan.count ≡ length c.scan.ends = omega (arith, i.room, c.if-count-ends.false) in
-    AreListed-part block from end c.requires.lines.low (tree_in c.args.self.now) to c.scan.count c.scan.ends c.requires.lines.high
+    AreListed-part block from end c.requires.lines.low c.args.self.now.tree to c.scan.count c.scan.ends c.requires.lines.high
     (omega (arith, i.scanned.low, i.from)) (omega (arith, i.scanned.within, length-take-le end block c.requires.lines.high))
     (subst (λ f. AreWholeLines (take (to - f) (drop f text))) i.from (i.stops full).1)
     (subst (λ f. c.scan.count ≤ newlines_between text f to) i.from i.few) i.room
@@ -130,7 +129,7 @@ returns-after-scan-clause-listed c =
     let text : List ℕ = take end block in
     let within : to ≤ end = omega (arith, i.scanned.within, length-take-le end block c.requires.lines.high) in
     let all : end ≡ to = omega (arith, within, c.scan-test.false) in
-    AreListed-part block from end c.requires.lines.low (tree_in c.args.self.now) to c.scan.count c.scan.ends c.requires.lines.high
+    AreListed-part block from end c.requires.lines.low c.args.self.now.tree to c.scan.count c.scan.ends c.requires.lines.high
     (omega (arith, i.scanned.low, i.from)) within
     (subst (λ k. AreWholeLines (take (k - from) (drop from text))) all
     (subst AreWholeLines (sym (slice_same block from end c.requires.lines.low end c.requires.lines.low (omega arith))) c.requires.lines.whole))

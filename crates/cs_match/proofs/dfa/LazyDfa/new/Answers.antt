@@ -7,22 +7,22 @@ use Rattle.cs_match.specs.States.{start}
 use Rattle.cs_match.proofs.TransitionLemmas.{first_states, first_table}
 use Rattle.cs_match.proofs.dfa.LazyDfa.new.Goals as goal
 
-pub returns : goal.returns
-returns c =
+pub invariant_of-result : goal.invariant_of-result
+invariant_of-result c =
     let t = c.args.program.now in
     let classes = c.byte_classes.result.now in
     let states = c.in_ok-cached.cached in
     let first = subst (λ (n : State). AreFirstStates classes.count n states) c.in_ok-scratch.ensures c.in_ok-cached.ensures in
-    let five : length states.items ≡ 5 = ap length first.all ∙ length-replicate 5 (start t) in (
-      refl,
-      record {
-        expanded = c.in_ok-memory.ensures.expanded;
-        classes = c.byte_classes.ensures;
-        cached = first_states t classes.count states first;
-        table = first_table t classes c.write_first.new.transitions.items c.byte_classes.ensures c.write_first.ensures.rows states.items five;
-        capacity = c.write_first.ensures.room;
-        room = ap (λ (n : State). length n.positions) c.in_ok-scratch.ensures ∙ length-replicate (position_count t) false;
-        memory = c.in_ok-memory.ensures.scratch;
-      },
-      five,
-    )
+    let five : length states.items ≡ 5 = ap length first.all ∙ length-replicate 5 (start t) in
+    record {
+      expanded = c.in_ok-memory.ensures.expanded;
+      classes = c.byte_classes.ensures;
+      cached = first_states t classes.count states first;
+      table = first_table t classes c.write_first.new.transitions.items c.byte_classes.ensures c.write_first.ensures.rows states.items five;
+      capacity = c.write_first.ensures.room;
+      room = ap (λ (n : State). length n.positions) c.in_ok-scratch.ensures ∙ length-replicate (position_count t) false;
+      memory = c.in_ok-memory.ensures.scratch;
+    }
+
+pub returns : goal.returns
+returns c = (refl, ap length c.in_ok-cached.ensures.all ∙ length-replicate 5 c.in_ok-scratch.scratch)

@@ -3,14 +3,13 @@ use Rattle.std.specs.Prelude.{IfSome}
 use Rattle.std.proofs.lemmas.List.{get_or_default}
 use Rattle.std.proofs.lemmas.Bool.{ne_eqb}
 use Rattle.cs_syntax.specs.Matching.{Tree}
-use Rattle.cs_match.specs.declared.dfa.LazyDfa.{LazyDfa}
 use Rattle.cs_match.specs.declared.state.State.{State}
 use Rattle.cs_match.specs.Digits.{IsBlock}
 use Rattle.cs_match.specs.Glushkov.{cuts_of}
 use Rattle.cs_match.specs.LazyDfa.{StandsFor, cached, dead, Leads, next}
 use Rattle.cs_match.specs.States.{start, successor, accepts_before}
 use Rattle.cs_match.specs.Table.{next_number}
-use Rattle.cs_match.specs.ConsistentDfa.{IsConsistent, LeadsIn, table_in, tree_in, count_in, state_in}
+use Rattle.cs_match.specs.ConsistentDfa.{Dfa, IsConsistent, LeadsIn, table_in, count_in, state_in}
 use Rattle.cs_match.proofs.PositionCountLemmas.{scaled}
 use Rattle.cs_match.proofs.StateLemmas.{block_successor}
 use Rattle.cs_match.proofs.TransitionLemmas.{some_classes}
@@ -25,63 +24,74 @@ leads_to t u count states n m k b number same is other h made some stands =
     some (λ line. absurd (other line))
 
 -- the state under construction has an unfinished character of a whole block
-scratch_block : (old : LazyDfa) (slot byte : ℕ) → IsConsistent old → old.states.scratch ≡ successor (tree_in old) (state_in old slot) byte →
-    IsBlock (cuts_of (tree_in old)) old.states.scratch.unfinished
+scratch_block : (old : Dfa) (slot byte : ℕ) → IsConsistent old.tree old.states → old.states.scratch ≡ successor old.tree (state_in old slot) byte →
+    IsBlock (cuts_of old.tree) old.states.scratch.unfinished
 scratch_block old slot byte right is =
-    subst (λ (n : State). IsBlock (cuts_of (tree_in old)) n.unfinished) (sym is)
-    (block_successor (tree_in old) (state_in old slot) byte (right.cached.blocks slot))
+    subst (λ (n : State). IsBlock (cuts_of old.tree) n.unfinished) (sym is)
+    (block_successor old.tree (state_in old slot) byte (right.cached.blocks slot))
 
-pub is_lost-requires-clause-later : goal.is_lost-requires-clause-later
-is_lost-requires-clause-later c =
+pub is_lost-requires : goal.is_lost-requires
+is_lost-requires c =
     let old = c.args.self.now in
-    let later : (successor (tree_in old) (state_in old c.args.slot) c.args.byte).first ≡ false = rw (ne_eqb c.args.byte 10 c.requires.within) refl in
-    ap (λ (n : State). n.first) c.requires.scratch ∙ later
+    let later : (successor old.tree (state_in old c.args.slot) c.args.byte).first ≡ false = rw (ne_eqb c.args.byte 10 c.requires.within) refl in
+    record { later = ap (λ (n : State). n.first) c.requires.scratch ∙ later }
 
 pub put-requires-clause-leads : goal.put-requires-clause-leads
 put-requires-clause-leads c =
     let old = c.args.self.now in
-    let t = tree_in old in
-    let some = some_classes t old.states.classes c.requires.right.classes in
+    let t = old.tree in
+    let right = subst (λ (d : Dfa). IsConsistent d.tree d.states) c.self.view_is c.self.invariant in
+    let some = some_classes t old.states.classes right.classes in
+    let is : 3 * c.self.inside.states.classes.count ≡ 3 * count_in old = ap (λ (d : Dfa). 3 * count_in d) c.self.view_is in
     leads_to t t (count_in old) old.states.cached.items (state_in old c.args.slot) (state_in old c.args.slot) old.states.scratch c.args.byte
-    (3 * count_in old) refl refl c.requires.within c.requires.stays c.requires.scratch (λ e. omega (arith, e, some))
-    (dead refl (c.is_lost.ensures.dead c.if-is_lost.true))
+    (3 * c.self.inside.states.classes.count) refl refl c.requires.within c.requires.stays c.requires.scratch (λ e. omega (arith, e, is, some))
+    (dead is (c.is_lost.ensures.dead c.if-is_lost.true))
 
 pub find-lookup-requires : goal.find-lookup-requires
-find-lookup-requires c = c.requires.right.room ∙ sym c.requires.right.cached.sized
+find-lookup-requires c = c.self.invariant.room ∙ sym c.self.invariant.cached.sized
 
 pub add-requires-then-len-most-clause-block : goal.add-requires-then-len-most-clause-block
 add-requires-then-len-most-clause-block c =
     let old = c.args.self.now in
     let new = c.empty.new.self in
-    subst (λ (t : Tree). IsBlock (cuts_of t) new.states.scratch.unfinished) (sym c.empty.ensures.dfa.1)
-    (subst (λ (n : State). IsBlock (cuts_of (tree_in old)) n.unfinished) (sym c.empty.ensures.scratch)
-    (scratch_block old c.args.slot c.args.byte c.requires.right c.requires.scratch))
+    subst (λ (t : Tree). IsBlock (cuts_of t) new.states.scratch.unfinished) (sym c.empty.ensures.same)
+    (subst (λ (n : State). IsBlock (cuts_of old.tree) n.unfinished) (sym c.empty.ensures.scratch)
+    (scratch_block old c.args.slot c.args.byte (subst (λ (d : Dfa). IsConsistent d.tree d.states) c.self.view_is c.self.invariant) c.requires.scratch))
 
 pub add-next-requires-clause-block : goal.add-next-requires-clause-block
-add-next-requires-clause-block c = scratch_block c.args.self.now c.args.slot c.args.byte c.requires.right c.requires.scratch
+add-next-requires-clause-block c = scratch_block c.args.self.now c.args.slot c.args.byte (subst (λ (d : Dfa). IsConsistent d.tree d.states) c.self.view_is c.self.invariant) c.requires.scratch
 
 pub put-requires-2-clause-leads : goal.put-requires-2-clause-leads
 put-requires-2-clause-leads c =
     let old = c.args.self.now in
-    let t = tree_in old in
+    let t = old.tree in
     let items = old.states.cached.items in
     let other = c.in-Some.other in
-    let found = subst (λ o. IfSome o (λ k. (k < length items) × (get_or items k old.states.scratch ≡ old.states.scratch))) c.in-Some.is
-    c.find-lookup.ensures.equal in
-    let some = some_classes t old.states.classes c.requires.right.classes in
+    let s = c.self.inside.states in
+    let found = subst (λ (d : Dfa). (other < length d.states.cached.items)
+    × (get_or d.states.cached.items other d.states.scratch ≡ d.states.scratch)) c.self.view_is
+    (subst (λ o. IfSome o (λ k. (k < length s.cached.items) × (get_or s.cached.items k s.scratch ≡ s.scratch))) c.in-Some.is c.find-lookup.ensures.equal) in
+    let right = subst (λ (d : Dfa). IsConsistent d.tree d.states) c.self.view_is c.self.invariant in
+    let some = some_classes t old.states.classes right.classes in
+    let is : other * s.classes.count ≡ other * count_in old = ap (λ (d : Dfa). other * count_in d) c.self.view_is in
     leads_to t t (count_in old) items (state_in old c.args.slot) (state_in old c.args.slot) old.states.scratch c.args.byte
-    (other * count_in old) refl refl c.requires.within c.requires.stays c.requires.scratch
-    (λ e. omega (arith, e, some, scaled 4 other (count_in old) c.if-other.true))
-    (cached other refl (record { within = found.0; ordinary = inr c.if-other.true })
+    (other * s.classes.count) refl refl c.requires.within c.requires.stays c.requires.scratch
+    (λ e. omega (arith, e, is, some, scaled 4 other (count_in old) c.if-other.true))
+    (cached other is (record { within = found.0; ordinary = inr c.if-other.true })
     (get_or_default items other (start t) old.states.scratch found.0 ∙ found.1))
+
+pub add-next-requires-clause-room : goal.add-next-requires-clause-room
+add-next-requires-clause-room c =
+    subst (λ (d : Dfa). length d.states.cached.items < d.states.cached.most) c.self.view_is
+    (omega (arith, c.self.invariant.cached.bound, c.if-len-most.false, c.len.ensures, c.most.ensures))
 
 pub returns-then-len-most-clause-leads : goal.returns-then-len-most-clause-leads
 returns-then-len-most-clause-leads c =
     let old = c.args.self.now in
     let new = c.add-then-len-most.new.self in
     let added = c.add-then-len-most.ensures in
-    leads_to (tree_in old) (tree_in new) (count_in new) new.states.cached.items (state_in old c.args.slot) (state_in old c.args.slot)
-    c.empty.new.self.states.scratch c.args.byte c.add-then-len-most.result (added.dfa.1 ∙ c.empty.ensures.dfa.1) refl
+    leads_to old.tree new.tree (count_in new) new.states.cached.items (state_in old c.args.slot) (state_in old c.args.slot)
+    c.empty.new.self.states.scratch c.args.byte c.add-then-len-most.result (added.same ∙ c.empty.ensures.same) refl
     c.requires.within c.requires.stays (c.empty.ensures.scratch ∙ c.requires.scratch) added.other added.number
 
 pub put-requires-3-clause-slot : goal.put-requires-3-clause-slot
@@ -92,8 +102,8 @@ put-requires-3-clause-leads c =
     let old = c.args.self.now in
     let new = c.add-next.new.self in
     let added = c.add-next.ensures in
-    leads_to (tree_in old) (tree_in new) (count_in new) new.states.cached.items (state_in old c.args.slot) (state_in new c.args.slot)
-    old.states.scratch c.args.byte c.add-next.result added.dfa.1 (added.kept c.args.slot c.requires.slot).1
+    leads_to old.tree new.tree (count_in new) new.states.cached.items (state_in old c.args.slot) (state_in new c.args.slot)
+    old.states.scratch c.args.byte c.add-next.result added.same (added.kept c.args.slot c.requires.slot).1
     c.requires.within c.requires.stays c.requires.scratch added.other added.number
 
 pub returns-2-clause-leads : goal.returns-2-clause-leads

@@ -1,13 +1,12 @@
 use Rattle.std.proofs.Common.{ℕ, ◌-◌, length, take, ap}
 use Rattle.cs_match.specs.Automaton.{Automaton}
-use Rattle.cs_match.specs.ConsistentDfa.{tree_in}
 use Rattle.cs_match.proofs.matcher.Matcher.add_steps.Goals as goal
 
 pub returns : goal.returns
 returns c =
     let dfa = c.self.inside.dfa in
     let at : ℕ → Automaton = λ n. record {
-      tree = tree_in dfa;
+      tree = dfa.tree;
       states = length dfa.states.cached.items - 4;
       ends = take c.self.inside.listed c.self.inside.ends.items;
       steps = n;

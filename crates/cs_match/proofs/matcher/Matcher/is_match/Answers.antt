@@ -6,9 +6,6 @@ use Rattle.cs_match.specs.ConsistentDfa.{automaton_of}
 use Rattle.cs_match.specs.Work.{WorksWithin, line_work}
 use Rattle.cs_match.proofs.matcher.Matcher.is_match.Goals as goal
 
-pub invariant_of-self : goal.invariant_of-self
-invariant_of-self c = (c.is_match.ensures.dfa.0, c.self.invariant.1, c.self.invariant.2)
-
 pub returns-clause-found : goal.returns-clause-found
 returns-clause-found c =
     subst (λ (a : Automaton). IsTrue c.is_match.result ↔ HasMatch a.tree c.args.line.now) c.self.view_is c.is_match.ensures.found
@@ -16,4 +13,4 @@ returns-clause-found c =
 pub returns-clause-work : goal.returns-clause-work
 returns-clause-work c =
     subst (λ (a : Automaton). WorksWithin (line_work a.tree (length c.args.line.now)) a
-    (automaton_of c.is_match.new.self (take c.self.inside.listed c.self.inside.ends.items) c.is_match.new.steps)) c.self.view_is c.is_match.ensures.work
+    (automaton_of c.is_match.new.self (take c.self.inside.listed c.self.inside.ends.items) c.is_match.new.steps)) c.self.view_is c.is_match.ensures.work.1

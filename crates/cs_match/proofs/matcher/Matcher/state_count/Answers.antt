@@ -1,19 +1,26 @@
-use Rattle.std.proofs.Common.{arith}
-use Rattle.cs_match.specs.ConsistentDfa.{tree_in, count_in}
+use Rattle.std.proofs.Common.{length, ap, arith}
+use Rattle.cs_match.specs.Automaton.{Automaton}
+use Rattle.cs_match.specs.ConsistentDfa.{Dfa}
 use Rattle.cs_match.proofs.PositionCountLemmas.{mul_both}
 use Rattle.cs_match.proofs.TransitionLemmas.{some_classes}
 use Rattle.cs_match.proofs.matcher.Matcher.state_count.Goals as goal
 
+pub returns-clause-exact : goal.returns-clause-exact
+returns-clause-exact c = omega (
+  arith,
+  c.len.ensures,
+  ap (λ (d : Dfa). length d.states.cached.items) c.dfa.view_is,
+  ap (λ (a : Automaton). a.states) c.self.view_is,
+)
+
 pub returns-clause-bound : goal.returns-clause-bound
 returns-clause-bound c =
-    let dfa = c.self.inside.dfa in
-    let right = c.self.invariant.0 in
-    let some = some_classes (tree_in dfa) dfa.states.classes right.classes in
-    let cached = right.cached in
+    let s = c.dfa.inside.states in
+    let right = c.dfa.invariant in
     omega (
       arith,
       c.len.ensures,
-      cached.bound,
-      cached.fits,
-      mul_both dfa.states.cached.most 1 dfa.states.cached.most (count_in dfa) (omega arith) (omega (arith, some)),
+      right.cached.bound,
+      right.cached.fits,
+      mul_both s.cached.most 1 s.cached.most s.classes.count (omega arith) (omega (arith, some_classes c.dfa.inside.program.now s.classes right.classes)),
     )

@@ -1,12 +1,9 @@
 -- The merge of two lists by id.
-use Rattle.std.proofs.Common.{◌≡◌, ◌≢◌, ℕ, ◌+◌, ◌<◌, ◌≤◌, Bool, true, false, cond, ◌||◌, eqb, ltb, List, [], ◌∷◌, ◌++◌, length, refl, sym, ap, subst, ◌∙◌, ◌⊎◌, inl, inr, Option, Some, None, arith, slice_get, append_assoc, length-append}
-use Rattle.cs_merge.proofs.Common.{cases_Bool, cases_eq, eqb-true, eq-eqb, ne_eqb, ltb-true, ltb-false, same_Some, append-nil, AllByRecursion, option_map_or, PostingList, has, ids_of, with_id, Written, AllBelow, last_ids, with_written_id, with_last_id, with_last_ids, next_after, AscendWithin, ids_onward, list_of, lower_of, without_number, IsRunOfEither, of_older, of_newer, IsMergedList, or-true, none-some}
-use Rattle.cs_index.proofs.postings.EncodedRuns.{onward_last}
+use Rattle.std.proofs.Common.{◌≡◌, ◌≢◌, ℕ, ◌+◌, ◌<◌, ◌≤◌, Bool, true, false, cond, ◌||◌, eqb, ltb, List, [], ◌∷◌, ◌++◌, length, refl, sym, ap, subst, ◌∙◌, ◌⊎◌, inl, inr, Option, Some, None, arith, slice_get, append_assoc}
+use Rattle.cs_merge.proofs.Common.{cases_Bool, cases_eq, eqb-true, eq-eqb, ne_eqb, ltb-true, ltb-false, same_Some, append-nil, AllByRecursion, option_map_or, PostingList, has, ids_of, with_id, Written, AllBelow, last_ids, with_written_id, with_last_id, with_last_ids, next_after, AscendWithin, ids_onward, list_of, lower_of, without_number, IsMergedList, or-true, none-some}
 use Rattle.cs_merge.proofs.TrigramSetLemmas.{with_one_more, ids_of_more}
-use Rattle.cs_index.proofs.postings.StreamPush.{next_append}
 use Rattle.std.proofs.Math.Bool.{or-false}
 use Rattle.cs_trigram.proofs.SetLemmas.{has-append}
-use Rattle.cs_index.proofs.writer.ListsBelow.{rise_behind}
 
 -- ---- the lower of two first ids
 
@@ -41,16 +38,6 @@ pub no_more : {X : Type 0} (o : Option X) → ((x : X) → o ≡ Some x → ⊥)
 no_more None h = refl
 no_more (Some x) h = absurd (h x refl)
 
-pub none_left : (some others : List ℕ) → lower_of (slice_get some 0) (slice_get others 0) ≡ None → (some ≡ []) × (others ≡ [])
-none_left [] [] e = (refl, refl)
-none_left [] (b ∷ bs) e = cc
-none_left (a ∷ xs) [] e = cc
-none_left (a ∷ xs) (b ∷ bs) e =
-    elim (cases_Bool (ltb b a)) [
-      | inl lower ↦ absurd (none-some b (sym (sym (ap (λ t. cond t (Some b) (Some a)) lower) ∙ e)))
-      | inr from ↦ absurd (none-some a (sym (sym (ap (λ t. cond t (Some b) (Some a)) from) ∙ e)))
-    ]
-
 -- ---- a list without its first id
 
 rise_without : (count next id : ℕ) (ids : List ℕ) → AscendWithin count next ids → AtLeast id ids →
@@ -81,7 +68,7 @@ has_first (one ∷ ids) id n there is = ap (λ b. b || has ids n) (ap (λ m. eqb
 has_push : (ids : List ℕ) (id n : ℕ) → has (ids ++ id ∷ []) n ≡ (has ids n || eqb id n)
 has_push ids id n = has-append n ids (id ∷ []) ∙ ap (λ b. has ids n || b) (or-false (eqb id n))
 
-next_after_push : (next id : ℕ) (ids : List ℕ) → next_after next (ids ++ id ∷ []) ≡ id + 1
+pub next_after_push : (next id : ℕ) (ids : List ℕ) → next_after next (ids ++ id ∷ []) ≡ id + 1
 next_after_push next id [] = refl
 next_after_push next id (one ∷ ids) = next_after_push (one + 1) id ids
 
@@ -103,7 +90,7 @@ each_more given some others id n least =
     found (inl there) is = ap (λ b. b || has others n) (has_first some id n there is)
     found (inr there) is = ap (λ b. has some n || b) (has_first others id n there is) ∙ or-true (has some n)
 
-first_rises : (count next id : ℕ) (ids : List ℕ) → AscendWithin count next ids → slice_get ids 0 ≡ Some id → (next ≤ id) × (id < count)
+pub first_rises : (count next id : ℕ) (ids : List ℕ) → AscendWithin count next ids → slice_get ids 0 ≡ Some id → (next ≤ id) × (id < count)
 first_rises count next id [] up there = cc
 first_rises count next id (one ∷ ids) up there =
     let is : one ≡ id = same_Some one id there in
@@ -166,7 +153,7 @@ module _ (trigram : ℕ) (before now : Written) (older newer older_left newer_le
 pub has_both : (ids more : List ℕ) (n : ℕ) → has (ids ++ more) n ≡ (has ids n || has more n)
 has_both ids more n = has-append n ids more
 
-rise_ends : (count next : ℕ) (ids more : List ℕ) → next ≤ count → AscendWithin count next (ids ++ more) → next_after next ids ≤ count
+pub rise_ends : (count next : ℕ) (ids more : List ℕ) → next ≤ count → AscendWithin count next (ids ++ more) → next_after next ids ≤ count
 rise_ends count next [] more within up = within
 rise_ends count next (one ∷ ids) more within up = rise_ends count (one + 1) ids more (omega (arith, up.1)) up.2
 
@@ -178,35 +165,13 @@ next_below id next most (one ∷ run) within all =
     let below : id + 1 + one < most = all.0 in
     next_below id (id + 1 + one + 1) most run (omega (arith, below)) all.1
 
--- the remaining ids of the other list are above the run
-others_behind : (count id : ℕ) (run others : List ℕ) → AtLeast id others →
-    AscendWithin count (id + 1) (without_number id others) →
-    ((most : ℕ) → slice_get others 0 ≡ Some most → AllByRecursion (λ other. id + 1 + other < most) run) →
-    AscendWithin count (next_after (id + 1) (ids_onward (id + 1) run)) (without_number id others)
-others_behind count id [] others from up below = up
-others_behind count id (one ∷ run) [] from up below = tt
-others_behind count id (one ∷ run) (other ∷ others) from up below =
-    let all = below other refl in
-    let first : id + 1 + one < other = all.0 in
-    let differs : cond (eqb other id) others (other ∷ others) ≡ other ∷ others =
-    ap (λ b. cond b others (other ∷ others)) (ne_eqb other id (λ e. absurd (omega (arith, e, first)))) in
-    let up' : AscendWithin count (id + 1) (other ∷ others) = subst (AscendWithin count (id + 1)) differs up in
-    subst (AscendWithin count (next_after (id + 1) (ids_onward (id + 1) (one ∷ run)))) (sym differs)
-    (next_below id (id + 1) other (one ∷ run) (omega (arith, first)) all, up'.1, up'.2)
-
--- a run is moved from the remaining ids of one list to the written ids
-given_older : (given run older newer : Bool) → ((given || run) || (older || newer)) ≡ (given || ((run || older) || newer))
+-- ids are moved from the remaining ids to the written ones
+pub given_older : (given run older newer : Bool) → ((given || run) || (older || newer)) ≡ (given || ((run || older) || newer))
 given_older true run older newer = refl
 given_older false true older newer = refl
 given_older false false older newer = refl
 
-given_newer : (given run older newer : Bool) → ((given || run) || (older || newer)) ≡ (given || (older || (run || newer)))
-given_newer true run older newer = refl
-given_newer false true true newer = refl
-given_newer false true false newer = refl
-given_newer false false older newer = refl
-
-with_more : (trigram : ℕ) (now : Written) (lists : List PostingList) (given more : List ℕ) → now.last_trigram
+pub with_more : (trigram : ℕ) (now : Written) (lists : List PostingList) (given more : List ℕ) → now.last_trigram
     ≡ Some trigram → now.lists ≡ lists ++ list_of trigram given → AllBelow lists trigram → with_last_ids now more
     ≡ record {
       paths = now.paths;
@@ -234,167 +199,3 @@ with_more trigram now lists given (id ∷ more) begun is below =
       last_trigram = now.last_trigram;
       sent = now.sent;
     } in l) (append_assoc given (id ∷ []) more)
-
--- the run of the lowest id is written
-module _ (trigram : ℕ) (before now written : Written) (older newer older_left newer_left : List ℕ)
-    (state : IsMergedList trigram before now older newer older_left newer_left) (below : AllBelow before.lists trigram)
-    (begun : now.last_trigram ≡ Some trigram) (id : ℕ)
-    (next : lower_of (slice_get older_left 0) (slice_get newer_left 0) ≡ Some id) (is : written ≡ with_last_id now id)
-    (run older_rest newer_rest : List ℕ) (are : IsRunOfEither id run older_left newer_left older_rest newer_rest) where
-  one : IsMergedList trigram before written older newer (without_number id older_left) (without_number id newer_left)
-  one = given_more trigram before now older newer older_left newer_left state below begun id next written is
-
-  begun_one : written.last_trigram ≡ Some trigram
-  begun_one = still_begun trigram before now older newer older_left newer_left state below begun id next written is
-
-  ids_one : last_ids written ≡ one.given
-  ids_one = ap (λ o. option_map_or (ids_of written.lists) o []) begun_one ∙ ap (λ lists. ids_of lists trigram) one.lists
-      ∙ ids_of_more trigram before.lists one.given below
-
-  next_one : next_after 0 one.given ≡ id + 1
-  unfolding one given_more
-  next_one = next_after_push 0 id state.given
-
-  pub last_one : next_after 0 (last_ids written) ≡ id + 1
-  last_one = ap (next_after 0) ids_one ∙ next_one
-
-  pub some_last : last_ids written ≢ []
-  unfolding one given_more
-  some_last e = none state.given (sym ids_one ∙ e)
-    where
-      none : (ids : List ℕ) → ids ++ id ∷ [] ≡ [] → ⊥
-      none [] f = cc
-      none (other ∷ ids) f = cc
-
-  least : IsLowest id older_left newer_left
-  least = lowest older_left newer_left id next
-
-  names : length written.names ≡ length before.names
-  names = ap (λ (ns : List (List ℕ)). length ns) one.names
-
-  older_up : AscendWithin (length before.names) (id + 1) (without_number id older_left)
-  older_up = subst (λ n. AscendWithin (length before.names) n (without_number id older_left)) next_one one.older_rise
-
-  newer_up : AscendWithin (length before.names) (id + 1) (without_number id newer_left)
-  newer_up = subst (λ n. AscendWithin (length before.names) n (without_number id newer_left)) next_one one.newer_rise
-
-  within : id + 1 ≤ length before.names
-  within = let b = bounds trigram before now older newer older_left newer_left state below begun id next in omega (arith, b.1)
-
-  run_ends : next_after (id + 1) (ids_onward (id + 1) run) ≤ length before.names
-  run_ends = elim are [
-    | of_older r same ↦ rise_ends (length before.names) (id + 1) (ids_onward (id + 1) run)
-        (without_number id older_rest) within (subst (AscendWithin (length before.names) (id + 1)) r.ids_are older_up)
-    | of_newer r same ↦ rise_ends (length before.names) (id + 1) (ids_onward (id + 1) run)
-        (without_number id newer_rest) within (subst (AscendWithin (length before.names) (id + 1)) r.ids_are newer_up)
-  ]
-
-  pub run_named : next_after 0 (last_ids written) + next_after 0 run ≤ length written.names
-  run_named =
-      let end : next_after (id + 1) (ids_onward (id + 1) run) ≡ id + 1 + next_after 0 run = onward_last (id + 1) run in
-      omega (arith, last_one, run_ends, names, end)
-
-  pub run_given : (after : Written) → after ≡ with_last_ids written (ids_onward (next_after 0 (last_ids written)) run) →
-      IsMergedList trigram before after older newer (without_number id older_rest) (without_number id newer_rest)
-  run_given after e = record {
-    given = one.given ++ ids;
-    paths = ap (λ (l : Written). l.paths) all ∙ one.paths;
-    names = ap (λ (l : Written). l.names) all ∙ one.names;
-    lists = ap (λ (l : Written). l.lists) all;
-    sent = ap (λ (l : Written). l.sent) all ∙ one.sent;
-    each = λ n. by_each are n ∙ one.each n;
-    older_rise = subst (λ m. AscendWithin (length before.names) m (without_number id older_rest)) (sym ends) (older_behind are);
-    newer_rise = subst (λ m. AscendWithin (length before.names) m (without_number id newer_rest)) (sym ends) (newer_behind are);
-  }
-    where
-      ids : List ℕ
-      ids = ids_onward (id + 1) run
-
-      all : after ≡ record {
-        paths = written.paths;
-        names = written.names;
-        lists =
-            before.lists ++ list_of trigram (one.given ++ ids);
-        last_trigram = written.last_trigram;
-        sent = written.sent;
-      }
-      all = e ∙ ap (λ n. with_last_ids written (ids_onward n run)) last_one ∙ with_more trigram written before.lists
-          one.given ids begun_one one.lists below
-
-      ends : next_after 0 (one.given ++ ids) ≡ next_after (id + 1) ids
-      ends = next_append 0 one.given ids ∙ ap (λ n. next_after n ids) next_one
-
-      by_each : IsRunOfEither id run older_left newer_left older_rest newer_rest → (n : ℕ) →
-          (has (one.given ++ ids) n || (has (without_number id older_rest) n || has (without_number id newer_rest) n))
-          ≡ (has one.given n || (has (without_number id older_left) n || has (without_number id newer_left) n))
-      by_each (of_older r same) n =
-          ap (λ b. b || (has (without_number id older_rest) n || has (without_number id newer_rest) n)) (has_both one.given ids n)
-          ∙ given_older (has one.given n) (has ids n) (has (without_number id older_rest) n) (has (without_number id newer_rest) n)
-          ∙ (λ i. has one.given n || ((sym (has_both ids (without_number id older_rest) n)
-          ∙ ap (λ l. has l n) (sym r.ids_are)) i || has (without_number id (same i)) n))
-      by_each (of_newer r same) n =
-          ap (λ b. b || (has (without_number id older_rest) n || has (without_number id newer_rest) n)) (has_both one.given ids n)
-          ∙ given_newer (has one.given n) (has ids n) (has (without_number id older_rest) n) (has (without_number id newer_rest) n)
-          ∙ (λ i. has one.given n || (has (without_number id (same i)) n
-          || (sym (has_both ids (without_number id newer_rest) n) ∙ ap (λ l. has l n) (sym r.ids_are)) i))
-
-      older_behind : IsRunOfEither id run older_left newer_left older_rest newer_rest →
-          AscendWithin (length before.names) (next_after (id + 1) ids) (without_number id older_rest)
-      older_behind (of_older r same) = rise_behind (length before.names) (id + 1) ids (without_number id older_rest)
-          (subst (AscendWithin (length before.names) (id + 1)) r.ids_are older_up)
-      older_behind (of_newer r same) = subst (λ l. AscendWithin (length before.names) (next_after (id + 1) ids)
-          (without_number id l)) (sym same) (others_behind (length before.names) id run older_left least.some_from
-          older_up r.below)
-
-      newer_behind : IsRunOfEither id run older_left newer_left older_rest newer_rest →
-          AscendWithin (length before.names) (next_after (id + 1) ids) (without_number id newer_rest)
-      newer_behind (of_older r same) = subst (λ l. AscendWithin (length before.names) (next_after (id + 1) ids)
-          (without_number id l)) (sym same) (others_behind (length before.names) id run newer_left least.others_from
-          newer_up r.below)
-      newer_behind (of_newer r same) = rise_behind (length before.names) (id + 1) ids (without_number id newer_rest)
-          (subst (AscendWithin (length before.names) (id + 1)) r.ids_are newer_up)
-
-  -- fewer ids remain
-  pub run_shorter : length (without_number id older_rest) + length (without_number id newer_rest) < length older_left + length newer_left
-  run_shorter = by_index least.among are
-    where
-      no_longer : (ids : List ℕ) → length (without_number id ids) ≤ length ids
-      no_longer [] = omega arith
-      no_longer (other ∷ ids) =
-          elim (cases_Bool (eqb other id)) [
-            | inl is ↦ let e = ap (λ b. length (cond b ids (other ∷ ids))) is in omega (arith, e)
-            | inr differs ↦ let e = ap (λ b. length (cond b ids (other ∷ ids))) differs in omega (arith, e)
-          ]
-
-      shorter : (ids : List ℕ) → slice_get ids 0 ≡ Some id → length (without_number id ids) < length ids
-      shorter [] there = cc
-      shorter (other ∷ ids) there = let e = ap (λ b. length (cond b ids (other ∷ ids)))
-          (eq-eqb other id (same_Some other id there)) in omega (arith, e)
-
-      behind : (ids rest : List ℕ) → without_number id ids ≡ ids_onward (id + 1) run ++ without_number id rest →
-          length (without_number id rest) ≤ length (without_number id ids)
-      behind ids rest is = let long = ap length is in let both = length-append (ids_onward (id + 1) run)
-          (without_number id rest) in omega (arith, long, both)
-
-      by_index : (slice_get older_left 0 ≡ Some id) ⊎ (slice_get newer_left 0 ≡ Some id) →
-          IsRunOfEither id run older_left newer_left older_rest newer_rest → length (without_number id older_rest)
-          + length (without_number id newer_rest) < length older_left + length newer_left
-      by_index (inl there) (of_older r same) = let a = shorter older_left there in let b =
-          behind older_left older_rest r.ids_are in let d = no_longer newer_left in let e =
-          ap (λ ids. length (without_number id ids)) same in omega (arith, a, b, d, e)
-      by_index (inl there) (of_newer r same) = let a = shorter older_left there in let b =
-          behind newer_left newer_rest r.ids_are in let d = no_longer newer_left in let e =
-          ap (λ ids. length (without_number id ids)) same in omega (arith, a, b, d, e)
-      by_index (inr there) (of_older r same) = let a = shorter newer_left there in let b =
-          behind older_left older_rest r.ids_are in let d = no_longer older_left in let e =
-          ap (λ ids. length (without_number id ids)) same in omega (arith, a, b, d, e)
-      by_index (inr there) (of_newer r same) = let a = shorter newer_left there in let b =
-          behind newer_left newer_rest r.ids_are in let d = no_longer older_left in let e =
-          ap (λ ids. length (without_number id ids)) same in omega (arith, a, b, d, e)
-
-  pub run_begun : (after : Written) → after ≡ with_last_ids written (ids_onward (next_after 0 (last_ids written)) run) →
-      after.last_trigram ≡ Some trigram
-  run_begun after e =
-      ap (λ (l : Written). l.last_trigram) (e ∙ ap (λ n. with_last_ids written (ids_onward n run)) last_one
-      ∙ with_more trigram written before.lists one.given (ids_onward (id + 1) run) begun_one one.lists below)
-      ∙ begun_one

@@ -15,6 +15,7 @@ mod MergeResultLemmas
 mod NameStepLemmas
 mod NextListLemmas
 mod IdMergeLemmas
+mod WrittenBelowLemmas
 pub mod NameMergeLemmas
 mod MergedFilesLemmas
 mod SortedRunLemmas

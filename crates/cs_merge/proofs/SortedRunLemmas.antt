@@ -1,6 +1,6 @@
 -- The runs of two lists, sorted by their first new ids, have ascending ids.
 use Rattle.std.proofs.Common.{◌≡◌, ℕ, suc, ◌+◌, ◌-◌, ◌<◌, ◌≤◌, Bool, true, false, cond, not, ◌||◌, eqb, List, [], ◌∷◌, ◌++◌, length, drop, refl, sym, ap, subst, ◌∙◌, ◌⊎◌, inl, inr, Option, Some, None, arith, slice_get, get_or, ltb, append_assoc, length-append, option_map}
-use Rattle.cs_merge.proofs.Common.{true≢false, cases_Bool, cases_lt, eqb-true, eq-eqb, ltb-true, or_cases, same_Some, sum_by-IsPermutation, All-permutation, append-nil, drop_more, cons_option, sum_by, AllByRecursion, option_eq, has, next_after, AscendWithin, ids_onward, NewIds, new_id, new_ids_of, IsImageOfRun, AreUnique, IsInjective, IsRun, AreNewIdsFrom, lower_of, run_ids, runs_ids, without_number, AreGathered, AreDistinctIds, IsWithinRun, IsRunOf, IsRunOfEither, of_older, IdRun, all_push, or-true, none-some}
+use Rattle.cs_merge.proofs.Common.{true≢false, cases_Bool, cases_lt, eqb-true, eq-eqb, ltb-true, or_cases, same_Some, sum_by-IsPermutation, All-permutation, append-nil, drop_more, cons_option, sum_by, AllByRecursion, option_eq, has, next_after, AscendWithin, ids_onward, NewIds, new_id, new_ids_of, IsImageOfRun, AreUnique, IsInjective, IsRun, AreNewIdsFrom, run_ids, runs_ids, without_number, AreGathered, AreDistinctIds, IsWithinRun, IsRunOf, IdRun, all_push, or-true, none-some}
 use Rattle.std.proofs.lemmas.List.Elements.{All-from_recursion, recursion_from_All}
 use Rattle.std.proofs.lemmas.List.Sums.{sum_by-append, sum_by-cons}
 use Rattle.std.specs.List.Sorted.{IsNonDecreasingBy, IsPermutation}
@@ -14,7 +14,7 @@ here n ns = ap (λ b. b || has ns n) (eq-eqb n n refl)
 
 -- ---- one more run
 
-left_first : (id : ℕ) (ids : List ℕ) → slice_get ids 0 ≡ Some id → ids ≡ id ∷ without_number id ids
+pub left_first : (id : ℕ) (ids : List ℕ) → slice_get ids 0 ≡ Some id → ids ≡ id ∷ without_number id ids
 left_first id [] there = cc
 left_first id (other ∷ ids) there =
     let is : other ≡ id = same_Some other id there in
@@ -404,8 +404,8 @@ module _ (id_runs : List IdRun) (position : ℕ) (id_run : IdRun) (h : position 
   abbrev pub rest : List ℕ
   rest = id_run.0 ∷ runs_ids (drop (position + 1) id_runs)
 
-  pub is_first : lower_of (slice_get left 0) None ≡ Some id_run.0
-  is_first = ap (λ ids. lower_of (slice_get ids 0) None) (first_run id_runs position id_run h is)
+  pub is_first : slice_get left 0 ≡ Some id_run.0
+  is_first = ap (λ ids. slice_get ids 0) (first_run id_runs position id_run h is)
 
   without_first : (ids : List ℕ) → without_number id_run.0 (id_run.0 ∷ ids) ≡ ids
   without_first ids = ap (λ b. cond b ids (id_run.0 ∷ ids)) (eq-eqb id_run.0 id_run.0 refl)
@@ -413,11 +413,11 @@ module _ (id_runs : List IdRun) (position : ℕ) (id_run : IdRun) (h : position 
   pub rest_is : without_number id_run.0 rest ≡ runs_ids (drop (position + 1) id_runs)
   rest_is = without_first (runs_ids (drop (position + 1) id_runs))
 
-  pub is_run_of : IsRunOfEither id_run.0 id_run.1 left [] rest []
-  is_run_of = of_older record {
+  pub is_run_of : IsRunOf id_run.0 None id_run.1 left rest
+  is_run_of = record {
     ids_are =
         ap (without_number id_run.0) (first_run id_runs position id_run h is)
         ∙ without_first (ids_onward (id_run.0 + 1) id_run.1 ++ runs_ids (drop (position + 1) id_runs))
         ∙ ap (λ ids. ids_onward (id_run.0 + 1) id_run.1 ++ ids) (sym rest_is);
     below = λ most e. absurd (none-some most e);
-  } refl
+  }

@@ -3,9 +3,9 @@ use Rattle.std.specs.Prelude.{◌≡◌, ℕ, ◌+◌, ◌<◌, ◌≤◌, true,
 use Rattle.std.specs.List.{list_all, AllByRecursion}
 use Rattle.std.specs.Option.{option_map_or}
 use Rattle.cs_trigram.specs.Trigram.{has}
-use Rattle.cs_index.specs.AscendingIds.{next_after, AscendWithin, ids_onward}
+use Rattle.cs_index.specs.AscendingIds.{next_after, AscendWithin, BeginsFrom, ids_onward}
 use Rattle.cs_index.specs.Encoding.{ListEntry, PostingList}
-use Rattle.cs_index.specs.Written.{Written, AllBelow}
+use Rattle.cs_index.specs.Written.{Written, AllBelow, with_last_ids}
 use Rattle.cs_index.specs.OpenedParts.{Parts, ids_read, lists_in}
 use Rattle.cs_trigram.specs.TrigramSets.{AreDistinct}
 use Rattle.cs_index.specs.PostingLists.{Ids}
@@ -42,12 +42,21 @@ pub record IsRunOf (id : ℕ) (limit : Option ℕ) (run ids rest : List ℕ) : T
   pub ids_are : without_number id ids ≡ ids_onward (id + 1) run ++ without_number id rest
   pub below : (most : ℕ) → limit ≡ Some most → AllByRecursion (λ other. id + 1 + other < most) run
 
--- A run of the list that has the id, up to the first id of the other list.
-pub data IsRunOfEither (id : ℕ) (run older newer older_left newer_left : List ℕ) : Type 0 where
-  of_older : IsRunOf id (slice_get newer 0) run older older_left → newer_left ≡ newer →
-      IsRunOfEither id run older newer older_left newer_left
-  of_newer : IsRunOf id (slice_get older 0) run newer newer_left → older_left ≡ older →
-      IsRunOfEither id run older newer older_left newer_left
+-- the number is below the limit, if there is one
+abbrev pub IsBelow : Option ℕ → ℕ → Type 0
+IsBelow limit id = (most : ℕ) → limit ≡ Some most → id < most
+
+-- no id is below the limit; if there is none, there is no id
+abbrev pub BeginFrom : Option ℕ → List ℕ → Type 0
+BeginFrom None ids = ids ≡ []
+BeginFrom (Some most) ids = BeginsFrom most ids
+
+-- Ids that a list begins with, all below the limit, are appended to the list that was begun last.
+pub record IsWrittenBelow (limit : Option ℕ) (before now : Written) (ids left : List ℕ) : Type 0 where
+  pub given : List ℕ
+  pub ids_are : ids ≡ given ++ left
+  pub now_is : now ≡ with_last_ids before given
+  pub below : AllByRecursion (IsBelow limit) given
 
 -- the trigram of the list at a position of the list index
 abbrev pub list_trigram : Parts → ℕ → Option ℕ

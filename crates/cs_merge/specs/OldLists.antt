@@ -1,7 +1,7 @@
 -- The old index of a merge, whose tables are in memory, and whose lists are read from a store in their order.
 -- docs/PROMISES.md, "Merging".
 use Rattle.std.proofs.Math.ListN.{replicate}
-use Rattle.std.specs.Prelude.{◌≡◌, ℕ, true, List, length, nat_eq, if◌then◌else◌, Option, Some, slice_get}
+use Rattle.std.specs.Prelude.{◌≡◌, ℕ, true, List, nat_eq, if◌then◌else◌, Option, Some, slice_get}
 use Rattle.std.specs.Option.{option_map_or}
 use Rattle.cs_index.specs.Encoding.{ListEntry, PostingList}
 use Rattle.cs_index.specs.ListReading.{AreBytesOf, BytesAt, known_ids}

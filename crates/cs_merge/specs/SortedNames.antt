@@ -3,7 +3,7 @@
 use Rattle.std.specs.Prelude.{◌≡◌, ℕ, ◌<◌, true, List, [], length, map, slice_get, slice_index_or, Option, Some, None}
 use Rattle.std.specs.List.{AllByRecursion}
 use Rattle.cs_tree.specs.NamesAscending.{are_ascending}
-use Rattle.cs_index.specs.Built.{max_names}
+use Rattle.cs_index.specs.MaxNames.{max_names}
 use Rattle.cs_index.specs.Encoding.{IsString}
 use Rattle.cs_index.specs.OpenedParts.{Parts, are_covered}
 

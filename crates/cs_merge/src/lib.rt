@@ -16,10 +16,13 @@
 //!   are merged in ascending order of trigrams, and a list without ids is not written. A *run* is a
 //!   range of ids that the map shifts by one distance or drops as a whole (`id_runs`, Go's
 //!   `idrange`). The first id of a run is encoded again, and the others are copied as they are
-//!   encoded, up to the first id of the other list (`mapped_postings`). Dropped runs are skipped
-//!   without decoding. The trigram set of a name is never built. A list is read to its end even if
-//!   all of its ids are dropped, so that damage is always found. Once the written lists have more
-//!   bytes than an index may have (`Sections::list_bytes`), the others are only read for damage.
+//!   encoded, up to the first id of the other list (`mapped_postings`). Changes that are scattered
+//!   over many names make the runs short, and a copy costs as much as some four ids. So a run is
+//!   copied only if it is long for the distance of the last two ids; its ids are written one by one
+//!   otherwise. Dropped runs are skipped without decoding. The trigram set of a name is never
+//!   built. A list is read to its end even if all of its ids are dropped, so that damage is always
+//!   found. Once the written lists have more bytes than an index may have (`Sections::list_bytes`),
+//!   the others are only read for damage.
 //! - *Other orders.* If the new ids of an index are not in the order of its old ones, the runs of
 //!   both lists are sorted by their first new ids, and then copied.
 //! - *Replacing* (`replacing`). If the newer paths cover all paths and names of the old index

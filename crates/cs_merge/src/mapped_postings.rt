@@ -10,12 +10,16 @@ use crate::id_runs::IdRuns;
 use cs_index::{EncodedRun, IndexFault, Postings};
 use std::marker::Model;
 
+/// A run is copied if it is expected to have more ids than this. Fewer ids are quicker one by one.
+const FEW: u32 = 4;
+
 /// The new ids of a posting list, without dropped files: the first of them, and the reader of the
-/// rest.
+/// rest. `gap` is the distance of the old id of the first one from the old id that was read before.
 #[derive(Drop)]
 pub(crate) struct MappedPostings<'a, 'b> {
     first: Option<u32>,
     last: u32,
+    gap: u32,
     rest: Postings<'a>,
     runs: &'b IdRuns<'b>,
 }
@@ -51,6 +55,7 @@ impl<'a, 'b> MappedPostings<'a, 'b> {
         Ok(MappedPostings {
             first,
             last,
+            gap: last,
             rest,
             runs,
         })
@@ -63,6 +68,7 @@ impl<'a, 'b> MappedPostings<'a, 'b> {
         MappedPostings {
             first: None,
             last: 0,
+            gap: 0,
             rest: Postings::new(&[0], 0, 0),
             runs,
         }
@@ -81,6 +87,13 @@ impl<'a, 'b> MappedPostings<'a, 'b> {
         self.last
     }
 
+    /// Whether the rest of the first id's run is expected to have more than a few ids. Their
+    /// distance is taken to be that of the last two ids.
+    #[inline(always)]
+    pub(crate) fn has_long_run(&self) -> bool {
+        self.runs.end(self.last).saturating_sub(self.last) / FEW > self.gap
+    }
+
     /// Reads the rest of the first id's run without decoding it. The run is relative to the first
     /// id, and its new ids are less than `limit`.
     pub(crate) fn run(&mut self, id: u32, limit: Option<u32>) -> EncodedRun<'a>
@@ -97,6 +110,7 @@ impl<'a, 'b> MappedPostings<'a, 'b> {
     }
 
     /// Advances to the next id, if `id` is the first one.
+    #[inline(always)]
     pub(crate) fn advance(&mut self, id: u32) -> Result<(), IndexFault>
         ensures ok { OnOk result (self.new ≡ ids_after id self.old) }
         ensures fault { IfErr result (λ fault. (fault ≡ IndexFault.BadList) × (self.old.whole ≡ false)) }
@@ -104,6 +118,7 @@ impl<'a, 'b> MappedPostings<'a, 'b> {
         if self.first == Some(id) {
             let next = next_kept(&mut self.rest, self.runs)?;
             let (last, first) = parts(next);
+            self.gap = last.saturating_sub(self.last);
             self.last = last;
             self.first = first;
         }
@@ -123,6 +138,7 @@ fn parts(next: Option<(u32, u32)>) -> (u32, Option<u32>)
 }
 
 /// The next id that is kept, with its new id. Runs of dropped ids are skipped without decoding.
+#[inline(always)]
 fn next_kept(ids: &mut Postings<'_>, runs: &IdRuns<'_>) -> Result<Option<(u32, u32)>, IndexFault>
     ensures ids { IfOk result (λ next. cons_option (new_of next) (new_ids_of runs.now ids.new.ids)
         ≡ new_ids_of runs.now ids.old.ids) }

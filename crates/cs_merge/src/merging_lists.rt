@@ -1,11 +1,11 @@
-// The merge of the posting lists of one trigram: a two-way merge by id that copies whole runs.
-ghost use Rattle.std.specs.Prelude.{◌≡◌, ◌⊎◌, ◌<◌, ◌^◌, ◌&&◌, ◌++◌, [], true, Some, length, slice_get, IfOk, MatchResult, OnOk};
+// The merge of the posting lists of one trigram: a two-way merge by id that copies long runs.
+ghost use Rattle.std.specs.Prelude.{◌≡◌, ◌≢◌, ◌⊎◌, ◌<◌, ◌^◌, ◌&&◌, ◌++◌, [], ◌∷◌, true, false, Some, None, length, slice_get, IfErr, IfOk, MatchResult, OnOk};
 ghost use Rattle.cs_trigram.specs.Trigram.{closing_trigram};
-ghost use Rattle.cs_index.specs.Written.{AllBelow};
+ghost use Rattle.cs_index.specs.Written.{last_ids, AllBelow};
 ghost use Rattle.cs_index.specs.Postings.{IsListFault};
-ghost use Rattle.cs_index.specs.AscendingIds.{AscendWithin};
+ghost use Rattle.cs_index.specs.AscendingIds.{next_after, AscendWithin};
 ghost use Rattle.cs_merge.specs.IdMap.{AreUnique, IsIncreasing, AreNewIdsFrom};
-ghost use Rattle.cs_merge.specs.ListMerge.{lower_of, runs_ids, AreGathered, AreDistinctIds, IsRunOfEither, IsMergedList};
+ghost use Rattle.cs_merge.specs.ListMerge.{lower_of, runs_ids, AreGathered, AreDistinctIds, IsWrittenBelow, BeginFrom, IsBelow, IsMergedList};
 
 use crate::id_map::IdMaps;
 use crate::id_runs::IdRuns;
@@ -136,36 +136,83 @@ fn merge_ascending(
 {
     let mut older = lists.older;
     let mut newer = lists.newer;
-    let mut next = lower(older.first(), newer.first());
-    if next.is_some() {
-        sections.list(trigram);
+    if lower(older.first(), newer.first()).is_none() {
+        return Ok(());
     }
-    'ids: while let Some(id) = next {
-        let run = next_run(&mut older, &mut newer, id);
+    sections.list(trigram);
+    'ids: while let Some(id) = newer.first() {
+        write_below(sections, &mut older, Some(id))?;
         sections.id(id)?;
-        sections.encoded_run(&run)?;
         older.advance(id)?;
         newer.advance(id)?;
-        next = lower(older.first(), newer.first());
+        write_below(sections, &mut newer, older.first())?;
+    }
+    write_below(sections, &mut older, None)?;
+    Ok(())
+}
+
+/// Writes the ids of a list that are below the limit, or all ids if there is none.
+fn write_below(
+    sections: &mut Sections,
+    list: &mut MappedPostings<'_, '_>,
+    limit: Option<u32>,
+) -> Result<(), IndexFault>
+    requires begun { sections.old.last_trigram ≢ None }
+    requires rise { AscendWithin (length sections.old.names)
+        (next_after 0 (last_ids sections.old)) list.old.ids }
+    ensures ok { OnOk result
+        (IsWrittenBelow limit sections.old sections.new list.old.ids list.new.ids) }
+    ensures left { OnOk result (BeginFrom limit list.new.ids) }
+    ensures whole { OnOk result (list.new.whole ≡ list.old.whole) }
+    ensures end { OnOk result (list.new.ids ≡ [] → list.new.whole ≡ true) }
+    ensures fault { IfErr result (IsListFault list.old.whole) }
+{
+    'ids: while let Some(id) = list.first() {
+        if !is_within(id, limit) {
+            return Ok(());
+        }
+        write_next(sections, list, id, limit)?;
     }
     Ok(())
 }
 
-/// Reads the run of the lowest id of both lists, up to the first id of the other list.
-fn next_run<'a>(
-    older: &mut MappedPostings<'a, '_>,
-    newer: &mut MappedPostings<'a, '_>,
+/// Writes the first id of a list, and the rest of its run as far as it is below the limit, if that
+/// is expected to have more than a few ids.
+#[inline(always)]
+fn write_next(
+    sections: &mut Sections,
+    list: &mut MappedPostings<'_, '_>,
     id: u32,
-) -> EncodedRun<'a>
-    requires { lower_of (slice_get older.old.ids 0) (slice_get newer.old.ids 0) ≡ Some id }
-    ensures run { IsRunOfEither id result older.old.ids newer.old.ids older.new.ids newer.new.ids }
-    ensures older_whole { older.new.whole ≡ older.old.whole }
-    ensures newer_whole { newer.new.whole ≡ newer.old.whole }
+    limit: Option<u32>,
+) -> Result<(), IndexFault>
+    requires first { slice_get list.old.ids 0 ≡ Some id }
+    requires within { IsBelow limit id }
+    requires begun { sections.old.last_trigram ≢ None }
+    requires rise { AscendWithin (length sections.old.names)
+        (next_after 0 (last_ids sections.old)) list.old.ids }
+    ensures ok { OnOk result
+        (IsWrittenBelow limit sections.old sections.new list.old.ids list.new.ids) }
+    ensures fewer { OnOk result (length list.new.ids < length list.old.ids) }
+    ensures whole { OnOk result (list.new.whole ≡ list.old.whole) }
+    ensures fault { IfErr result (IsListFault list.old.whole) }
 {
-    if older.first() == Some(id) {
-        older.run(id, newer.first())
-    } else {
-        newer.run(id, older.first())
+    sections.id(id)?;
+    if list.has_long_run() {
+        let run = list.run(id, limit);
+        sections.encoded_run(&run)?;
+    }
+    list.advance(id)?;
+    Ok(())
+}
+
+/// Whether the number is below the limit, if there is one.
+fn is_within(id: u32, limit: Option<u32>) -> bool
+    ensures below { result ≡ true → IsBelow limit id }
+    ensures above { result ≡ false → BeginFrom limit (id ∷ []) }
+{
+    match limit {
+        None => true,
+        Some(limit) => id < limit,
     }
 }
 

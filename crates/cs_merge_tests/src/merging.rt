@@ -149,6 +149,65 @@ fn limits_are_kept(rt: HostRuntime) -> Result<(), Fail> {
     Ok(())
 }
 
+/// Whether two indexes merge to these bytes.
+fn merges_to(alloc: Global, old: &[u8], newer: &[u8], want: &[u8]) -> bool {
+    match merge_bytes(alloc, old, newer) {
+        Some(index) => index.as_slice() == want,
+        None => false,
+    }
+}
+
+/// The text of a file of some kind before and after a change.
+fn text_of(kind: u32, is_new: bool) -> &'static [u8] {
+    match (kind, is_new) {
+        (0, false) => b"abcd\n",
+        (0, true) | (1, _) => b"bcde abcd\n",
+        (2, true) => b"cdef\n",
+        (_, false) => b"wxyz\n",
+        (_, true) => b"wxyz abcd\n",
+    }
+}
+
+/// Whether a change of each `step`-th of many files merges to the index of all files as they are
+/// then.
+fn scattered_change_merges(alloc: Global, names: &[String], step: u32) -> Result<bool, Fail> {
+    let mut paths = Vec::new(alloc);
+    let mut old = Vec::new(alloc);
+    let mut newer = Vec::new(alloc);
+    let mut all = Vec::new(alloc);
+    let mut kind = 0;
+    let mut left = 0;
+    for name in names {
+        let is_new = left == 0;
+        if is_new {
+            left = step;
+            paths.push(name.as_str())?;
+            newer.push((name.as_str(), text_of(kind, true)))?;
+        }
+        left = left.saturating_sub(1);
+        old.push((name.as_str(), text_of(kind, false)))?;
+        all.push((name.as_str(), text_of(kind, is_new)))?;
+        kind = if kind < 4 { kind + 1 } else { 0 };
+    }
+    let old = index_of(alloc, &["/a"], &old).ok_or("index")?;
+    let newer = index_of(alloc, &paths, &newer).ok_or("index")?;
+    let want = index_of(alloc, &["/a"], &all).ok_or("index")?;
+    Ok(merges_to(alloc, &old, &newer, &want))
+}
+
+#[test]
+fn scattered_changes_merge(rt: HostRuntime) -> Result<(), Fail> {
+    let alloc = rt.alloc();
+    let mut names = Vec::new(alloc);
+    for id in 0..600u32 {
+        names.push(format!(in alloc; "/a/{}", 1_000 + id)?)?;
+    }
+    for step in [1, 2, 7, 100, 599] {
+        assert!(rt; scattered_change_merges(alloc, &names, step)?, "{step}");
+    }
+    Ok(())
+}
+
 /// Why two indexes cannot be merged.
 fn error_of(alloc: Global, old: &[u8], newer: &[u8]) -> Option<MergeFault> {
     merge(alloc, &Index::open(old).ok()?, &Index::open(newer).ok()?).err()

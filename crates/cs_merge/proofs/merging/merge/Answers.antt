@@ -1,4 +1,4 @@
-use Rattle.std.proofs.Common.{◌≡◌, ◌∙◌, ◌++◌, List, ℕ, Ok, IsOk, refl, sym, ap, subst}
+use Rattle.std.proofs.Common.{◌∙◌, ◌++◌, List, ℕ, IsOk, refl, sym, ap, subst}
 use Rattle.cs_merge.proofs.Common.{IsMerged, refused}
 use Rattle.cs_merge.specs.MergeResult.{IsMergeAnswer, most_bytes}
 use Rattle.cs_merge.proofs.ListLoopLemmas.{if_ok}

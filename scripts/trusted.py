@@ -17,12 +17,12 @@ STORED = "searches unopened silent unread tree outputs store".split()
 # the function, its file, the clauses that count besides its requirements (none: all), and the maximum number of lines
 # of definitions
 CONTRACTS = [
-    ("cindex", "cs_cindex/src/cindexing.rt", ["indexes"], 520),
-    ("cgrep", "cs_search/src/searching.rt", [], 850),
-    ("csearch_stored", "cs_search/src/stored.rt", STORED, 1350),
-    ("cindex_stored", "cs_cindex/src/job.rt", [], None),
-    ("run", "codesearch/src/running.rt", [], 2600),
-    ("execute", "codesearch/src/execution.rt", [], 2700),
+    ("cindex", "cs_cindex/src/job.rt", ["indexes"], 518),
+    ("cgrep", "cs_search/src/searching.rt", [], 812),
+    ("csearch_stored", "cs_search/src/stored.rt", STORED, 1320),
+    ("cindex_stored", "cs_cindex/src/job.rt", [], 1250),
+    ("run", "codesearch/src/running.rt", [], 2435),
+    ("execute", "codesearch/src/execution.rt", [], 2570),
     ("run_project", "cs_fresh/src/answer.rt", [], 3100),
 ]
 

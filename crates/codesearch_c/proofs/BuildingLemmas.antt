@@ -4,7 +4,8 @@ use Rattle.std.proofs.lemmas.Bool.{ne_eqb, eqb-true, false≢true}
 use Rattle.std.specs.List.{onto_first}
 use Rattle.cs_trigram.specs.declared.scan.Reason.{Reason}
 use Rattle.cs_trigram.specs.Scans.{text, skipped_for, skipped_or}
-use Rattle.cs_index.specs.Built.{Built, is_storable, IsOutOfOrder, IsFull, max_names}
+use Rattle.cs_index.specs.Built.{Built, is_storable, IsOutOfOrder, IsFull}
+use Rattle.cs_index.specs.MaxNames.{max_names}
 use Rattle.cs_index.specs.Encoding.{encoding_of}
 use Rattle.cs_index.specs.declared.fault.BuildFault.{BuildFault}
 use Rattle.cs_index.specs.declared.fault.BuildFault.TheVariants as build

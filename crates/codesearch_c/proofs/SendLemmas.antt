@@ -1,10 +1,10 @@
 -- What a slot holds may go to another thread: it is numbers and boxes, and counters of steps, which own nothing.
 use denote.Param.Send.{IsSend, owning_send, sendable}
 use Rattle.std.proofs.Crossing.{crosses}
-use Rattle.cs_syntax.specs.contracts.pattern.Pattern as Pattern
+use Rattle.cs_syntax.specs.contracts.node.Pattern as Pattern
 use Rattle.cs_syntax.proofs.node.Node.TheLaws.TheKnot as node
 use Rattle.cs_syntax.proofs.char_step.Unfinished.TheSendSync as unfinished
-use Rattle.cs_syntax.proofs.cuts.Cuts.TheSendSync as cuts
+use Rattle.cs_syntax.proofs.char_step.Cuts.TheSendSync as cuts
 use Rattle.cs_trigram.specs.contracts.queries.Query as Query
 use Rattle.cs_trigram.proofs.queries.Query.TheLaws.TheKnot as query
 use Rattle.cs_trigram.proofs.scanner.Scanner.TheSendSync as scanner

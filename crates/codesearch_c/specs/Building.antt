@@ -5,7 +5,8 @@ use Rattle.std.specs.Str.{IsUtf8}
 use Rattle.cs_trigram.specs.Trigram.{tri}
 use Rattle.cs_trigram.specs.Text.{limits, skip}
 use Rattle.cs_trigram.specs.declared.scan.Reason.{Reason}
-use Rattle.cs_index.specs.Built.{Built, with_entry, are_paths, is_storable, IsOutOfOrder, IsFull, max_names}
+use Rattle.cs_index.specs.Built.{Built, with_entry, are_paths, is_storable, IsOutOfOrder, IsFull}
+use Rattle.cs_index.specs.MaxNames.{max_names}
 use Rattle.cs_index.specs.Encoding.{encoding_of}
 use Rattle.cs_index.specs.declared.fault.BuildFault.{BuildFault}
 use Rattle.cs_index.specs.declared.fault.BuildFault.TheVariants as build

@@ -9,18 +9,18 @@ use Rattle.std.proofs.lemmas.List.Sums.{sum_by-cons}
 use Rattle.std.proofs.lemmas.List.Folds.{find-append}
 use Rattle.cs_tree.specs.Cover.{is_among}
 use Rattle.cs_args.specs.Args.{OptionItem, item, is_option, name_of, takes_next, option_items_from, option_items, arg_count, without_terminator, operands, bool_in, value_in, fault_in, first_fault, last_of, is_on, value_for, style_of, switches_of, valued_of, job_by, fault_or, parse_args}
-use Rattle.cs_args.specs.Settings.{switch_name, first_item, Sets, IsNextItem, BreaksRule, GivesJob, is_set, with_switch, with_setting, AreSettingsOf}
-use Rattle.cs_args.specs.JobView.{JobView, index, search, grep, job_view}
+use Rattle.cs_args.specs.Settings.{switch_name, first_item, Sets, IsNextItem, BreaksRule, is_set, with_switch, with_setting, AreSettingsOf}
+use Rattle.cs_args.specs.JobView.{JobView, index, search, grep, job_view, GivesJob}
 use Rattle.cs_args.specs.declared.jobs.Job.{Job}
 use Rattle.cs_args.specs.declared.jobs.Tool.{Tool}
 use Rattle.cs_args.specs.declared.jobs.Tool.TheVariants.{Cindex, Csearch, Cgrep}
 use Rattle.cs_args.specs.declared.fault.WordFault.{WordFault}
 use Rattle.cs_args.specs.declared.fault.WordFault.TheVariants.{UnknownOption, NoValue, BadTruth, Memory}
-use Rattle.cs_args.specs.declared.options.Switch.{Switch}
-use Rattle.cs_args.specs.declared.options.Switch.TheVariants.{List as Listed, Reset, LogSkip, Count, Bare, Fold, ListFiles, Number, Brute}
-use Rattle.cs_args.specs.declared.settings.Setting.{Setting}
-use Rattle.cs_args.specs.declared.settings.Setting.TheVariants.{Boolean, File as A_pattern}
-use Rattle.cs_args.specs.declared.settings.Settings.{Settings}
+use Rattle.cs_args.specs.declared.args.Switch.{Switch}
+use Rattle.cs_args.specs.declared.args.Switch.TheVariants.{List as Listed, Reset, LogSkip, Count, Bare, Fold, ListFiles, Number, Brute}
+use Rattle.cs_args.specs.declared.args.Setting.{Setting}
+use Rattle.cs_args.specs.declared.args.Setting.TheVariants.{Boolean, File as A_pattern}
+use Rattle.cs_args.specs.declared.args.Settings.{Settings}
 use Rattle.cs_args.specs.declared.args.ReadItem.{ReadItem}
 
 -- the value of `&xs[n..]`

@@ -25,13 +25,10 @@ file_fault_text InputTooLong = codes "input too long"
 
 -- a call on the tree failed; a name that is not UTF-8, a long path and a long input are not failures
 abbrev pub is_file_failure : FileFault → Bool
-is_file_failure Missing = true
-is_file_failure Denied = true
-is_file_failure Output = true
-is_file_failure Failed = true
 is_file_failure Unnamed = false
 is_file_failure PathTooLong = false
 is_file_failure InputTooLong = false
+is_file_failure fault = true
 
 abbrev pub fault_line_of : Tool → List ℕ → FileFault → List ℕ
 fault_line_of tool name fault =
@@ -42,5 +39,4 @@ abbrev pub file_fault_of : TreeFault → FileFault
 file_fault_of tree.Missing = Missing
 file_fault_of tree.Denied = Denied
 file_fault_of tree.Output = Output
-file_fault_of tree.Failed = Failed
-file_fault_of tree.Memory = Failed
+file_fault_of fault = Failed

@@ -1,20 +1,17 @@
 -- What one option sets, and what the settings so far are.
-use Rattle.std.specs.Prelude.{◌≡◌, ℕ, Bool, true, false, List, [], ◌∷◌, Option, Some, None, Result, Ok, Err, codes, slice_get, if◌then◌else◌, option_copied, MatchResult}
+use Rattle.std.specs.Prelude.{◌≡◌, ℕ, Bool, true, false, List, [], ◌∷◌, Option, Some, None, codes, slice_get, if◌then◌else◌, option_copied}
 use Rattle.cs_tree.specs.Cover.{is_among}
 use Rattle.cs_args.specs.Args.{OptionItem, item, is_option, arg_count, fault_in, switches_of, valued_of, name_of, takes_next, bool_in, value_in, is_on, value_for}
-use Rattle.cs_args.specs.JobView.{JobView, job_view}
-use Rattle.cs_args.specs.declared.jobs.Job.{Job}
 use Rattle.cs_args.specs.declared.fault.WordFault.{WordFault}
-use Rattle.cs_args.specs.declared.fault.WordFault.TheVariants.{Memory}
-use Rattle.cs_args.specs.declared.settings.Setting.{Setting}
-use Rattle.cs_args.specs.declared.settings.Setting.TheVariants.{Boolean, File as A_pattern}
-use Rattle.cs_args.specs.declared.settings.Settings.{Settings}
+use Rattle.cs_args.specs.declared.args.Setting.{Setting}
+use Rattle.cs_args.specs.declared.args.Setting.TheVariants.{Boolean, File as A_pattern}
+use Rattle.cs_args.specs.declared.args.Settings.{Settings}
 use Rattle.cs_args.specs.declared.args.ReadItem.{ReadItem}
 use Rattle.cs_args.specs.declared.jobs.Tool.{Tool}
-use Rattle.cs_args.specs.declared.options.Switch.{Switch}
-use Rattle.cs_args.specs.declared.options.Switch.TheVariants.{List as Listed, Reset, LogSkip, Count, Bare, Fold, ListFiles, Number, Brute}
-use Rattle.cs_args.specs.declared.options.Flag.{Flag}
-use Rattle.cs_args.specs.declared.options.Flag.TheVariants.{Switch as A_switch, File}
+use Rattle.cs_args.specs.declared.args.Switch.{Switch}
+use Rattle.cs_args.specs.declared.args.Switch.TheVariants.{List as Listed, Reset, LogSkip, Count, Bare, Fold, ListFiles, Number, Brute}
+use Rattle.cs_args.specs.declared.args.Flag.{Flag}
+use Rattle.cs_args.specs.declared.args.Flag.TheVariants.{Switch as A_switch, File}
 
 abbrev pub switch_name : Switch → List ℕ
 switch_name Listed = codes "list"
@@ -92,8 +89,3 @@ with_setting (A_pattern pattern) settings = record settings { file = Some patter
 pub record AreSettingsOf (settings : Settings) (items : List OptionItem) : Type 0 where
   pub switches : (switch : Switch) → is_set switch settings ≡ is_on (switch_name switch) items
   pub file : option_copied settings.file ≡ value_for (codes "f") items
-
--- The answer is the job that the arguments parse as, or their error; instead of the job it may be Memory.
-abbrev pub GivesJob : Result JobView WordFault → Result Job WordFault → Type 0
-GivesJob (Ok job) answer = MatchResult answer (λ found. job_view found ≡ job) (λ fault. fault ≡ Memory)
-GivesJob (Err fault) answer = answer ≡ Err fault

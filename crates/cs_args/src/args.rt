@@ -1,15 +1,16 @@
-// Reads command line arguments as a job, by the rules of Go's package `flag`.
+// Reads command line arguments as a job, by the rules of Go's package `flag`: options, and the
+// settings that they give.
 ghost use Rattle.std.specs.Prelude.{◌≡◌, ◌∷◌, ◌≤◌, ◌↔◌, ◌≢◌, List, None, Some, Ok, Err, true, length, map, string_bytes, option_map, option_copied, IfOk, IfErr, IsOk};
-ghost use Rattle.cs_args.specs.JobView.{job_view};
-ghost use Rattle.cs_args.specs.Args.{OptionItem, is_option, option_items, operands, without_terminator, first_fault, index_job as index_by, search_job as search_by, grep_job as grep_by, job_by, parse_args};
-ghost use Rattle.cs_args.specs.Settings.{IsNextItem, BreaksRule, AreSettingsOf, GivesJob};
+ghost use Rattle.cs_args.specs.JobView.{job_view, GivesJob};
+ghost use Rattle.cs_args.specs.Args.{OptionItem, is_option, option_items, operands, without_terminator, first_fault, index_job as index_by, search_job as search_by, grep_job as grep_by, job_by, parse_args, option_text, name_of, value_of, parse_bool};
+ghost use Rattle.cs_args.specs.Settings.{IsNextItem, BreaksRule, AreSettingsOf, IsFlag};
 ghost use Rattle.cs_args.specs.declared.fault.WordFault.{WordFault as A_fault};
 ghost use Rattle.cs_args.specs.declared.fault.WordFault.TheVariants.{Memory};
+ghost use Rattle.cs_args.specs.declared.jobs.Tool.TheVariants.{Cindex, Cgrep};
+ghost use Rattle.cs_args.specs.declared.args.Flag.TheVariants.{Switch as A_switch};
 
 use crate::fault::WordFault;
-use crate::jobs::{GrepJob, IndexJob, Job, SearchJob, Tool};
-use crate::options::{Flag, flag_named, is_option, parse_bool, split_option};
-use crate::settings::{DEFAULT, Setting, Settings};
+use crate::jobs::{GrepJob, IndexJob, Job, SearchJob, Style, Tool};
 use std::alloc::{AllocError, Global};
 
 /// An option, and the number of arguments that it takes.
@@ -24,6 +25,101 @@ struct ReadItem<'a> {
 struct ReadOptions<'a> {
     settings: Settings<'a>,
     rest: &'a [String],
+}
+
+/// A Boolean option.
+#[derive(Clone, Copy, Drop)]
+pub(crate) enum Switch {
+    List,
+    Reset,
+    LogSkip,
+    Count,
+    Bare,
+    Fold,
+    ListFiles,
+    Number,
+    Brute,
+}
+
+/// An option of a tool.
+#[derive(Clone, Copy, Drop)]
+pub(crate) enum Flag {
+    Switch(Switch),
+    File,
+}
+
+/// An option argument, split at its first `=`.
+#[derive(Clone, Copy, Drop)]
+pub(crate) struct OptionArg<'a> {
+    pub(crate) name: &'a str,
+    pub(crate) value: Option<&'a str>,
+}
+
+/// What one option sets.
+#[derive(Clone, Copy, Drop)]
+pub(crate) enum Setting<'a> {
+    Boolean(Switch, bool),
+    File(&'a str),
+}
+
+/// What all options so far set.
+#[derive(Clone, Copy, Drop)]
+pub(crate) struct Settings<'a> {
+    pub(crate) list: bool,
+    pub(crate) reset: bool,
+    pub(crate) log_skip: bool,
+    pub(crate) style: Style,
+    pub(crate) fold: bool,
+    pub(crate) brute: bool,
+    pub(crate) file: Option<&'a str>,
+}
+
+/// The settings without options.
+const DEFAULT: Settings<'static> = Settings {
+    list: false,
+    reset: false,
+    log_skip: false,
+    style: Style {
+        count: false,
+        list: false,
+        number: false,
+        bare: false,
+    },
+    fold: false,
+    brute: false,
+    file: None,
+};
+
+impl<'a> Settings<'a> {
+    ghost use Rattle.std.specs.Prelude.{◌≡◌};
+    ghost use Rattle.cs_args.specs.Settings.{with_switch, with_setting};
+
+    /// Applies one more option. It replaces an earlier setting of the same option.
+    pub(crate) fn set(&mut self, setting: Setting<'a>)
+        ensures { self.new ≡ with_setting setting.entry self.old }
+    {
+        match setting {
+            Setting::Boolean(switch, on) => self.set_boolean(switch, on),
+            Setting::File(pattern) => self.file = Some(pattern),
+        }
+    }
+
+    /// Sets a switch.
+    fn set_boolean(&mut self, switch: Switch, on: bool)
+        ensures { self.new ≡ with_switch switch on self.old }
+    {
+        match switch {
+            Switch::List => self.list = on,
+            Switch::Reset => self.reset = on,
+            Switch::LogSkip => self.log_skip = on,
+            Switch::Count => self.style.count = on,
+            Switch::Bare => self.style.bare = on,
+            Switch::Fold => self.fold = on,
+            Switch::ListFiles => self.style.list = on,
+            Switch::Number => self.style.number = on,
+            Switch::Brute => self.brute = on,
+        }
+    }
 }
 
 /// Reads the arguments of a tool: options first, as Go's package `flag` reads them, and then
@@ -234,4 +330,90 @@ fn copies(alloc: Global, texts: &[String]) -> Result<Vec<String>, AllocError>
         copies.push(text.clone()?)?;
     }
     Ok(copies)
+}
+
+/// Whether an argument is an option. `-`, `--` and the empty argument are not.
+fn is_option(arg: &str) -> bool
+    ensures { result ≡ is_option arg.now }
+{
+    arg.starts_with("-") && arg != "-" && arg != "--"
+}
+
+/// The option without its one or two dashes.
+fn option_text(arg: &str) -> &str
+    requires { is_option arg.now ≡ true }
+    ensures { result.now ≡ option_text arg.now }
+{
+    match arg.strip_prefix("--") {
+        Some(text) => text,
+        None => arg.strip_prefix("-").unwrap(),
+    }
+}
+
+/// Splits an option into its name and its value.
+fn split_option(arg: &str) -> OptionArg<'_>
+    requires { is_option arg.now ≡ true }
+    ensures name { result.name.now ≡ name_of arg.now }
+    ensures value { option_copied result.value ≡ value_of arg.now }
+{
+    let text = option_text(arg);
+    match text.split_once('=') {
+        Some((name, value)) => OptionArg {
+            name,
+            value: Some(value),
+        },
+        None => OptionArg {
+            name: text,
+            value: None,
+        },
+    }
+}
+
+/// Parses the value of a switch, as Go's `strconv.ParseBool`.
+fn parse_bool(value: &str) -> Option<bool>
+    ensures { result ≡ parse_bool value.now }
+{
+    match value {
+        "1" | "t" | "T" | "true" | "TRUE" | "True" => Some(true),
+        "0" | "f" | "F" | "false" | "FALSE" | "False" => Some(false),
+        _ => None,
+    }
+}
+
+/// The option of the tool with this name.
+fn flag_named(tool: Tool, name: &str) -> Option<Flag>
+    ensures { IsFlag tool name.now result }
+{
+    match (tool, name) {
+        (Tool::Cindex, _) => index_switch(name).map(Flag::Switch),
+        (Tool::Csearch, "brute") => Some(Flag::Switch(Switch::Brute)),
+        (Tool::Csearch, "f") => Some(Flag::File),
+        _ => line_switch(name).map(Flag::Switch),
+    }
+}
+
+/// The options of `cindex`.
+fn index_switch(name: &str) -> Option<Switch>
+    ensures { IsFlag Cindex name.now (option_map (λ switch. A_switch switch) result) }
+{
+    match name {
+        "list" => Some(Switch::List),
+        "reset" => Some(Switch::Reset),
+        "logskip" => Some(Switch::LogSkip),
+        _ => None,
+    }
+}
+
+/// The options of `csearch` and `cgrep`.
+fn line_switch(name: &str) -> Option<Switch>
+    ensures { IsFlag Cgrep name.now (option_map (λ switch. A_switch switch) result) }
+{
+    match name {
+        "c" => Some(Switch::Count),
+        "h" => Some(Switch::Bare),
+        "i" => Some(Switch::Fold),
+        "l" => Some(Switch::ListFiles),
+        "n" => Some(Switch::Number),
+        _ => None,
+    }
 }

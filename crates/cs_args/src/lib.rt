@@ -7,11 +7,9 @@ mod args;
 mod fault;
 mod jobs;
 pub mod laws;
-mod messages;
-mod options;
-mod settings;
 
 pub use args::read_words;
-pub use fault::{CindexFault, FileFault, Refusal, ToolFault, WordFault};
+pub use fault::{
+    CindexFault, FileFault, Refusal, ToolFault, WordFault, fault_line, message, skip_line,
+};
 pub use jobs::{GrepJob, IndexJob, Job, Reply, SearchJob, Style, Tool};
-pub use messages::{fault_line, message, skip_line};

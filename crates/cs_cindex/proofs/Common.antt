@@ -10,7 +10,7 @@ pub use Rattle.cs_cindex.specs.Files.{AreAbove, AreFileLinesIn, AreTextsIn, AreT
 pub use Rattle.cs_cindex.specs.JobPaths.{AreCleanFault, AreCleaned, IsCleanFault, starts}
 pub use Rattle.cs_cindex.specs.Merges.{IsMergeRefusal, MergesShort, MergesTo, refusal_of}
 pub use Rattle.cs_cindex.specs.Next.{HasWholeLists, IsIndex, IsIndexOf, IsNext, IsNextLong, IsOwnIndex, IsReducedIndex, IsTreeTooLarge, alone, base_paths, merged, next_index, opening_merge, opening_paths, paths_of_job}
-pub use Rattle.cs_cindex.specs.OldIndex.{IsFit, IsFitFor}
+pub use Rattle.cs_cindex.specs.FitTables.{IsFit, IsFitFor}
 pub use Rattle.cs_cindex.specs.Outcomes.{AnswersFor, IsStepTo, RightAfter, WalkPrintsFor}
 pub use Rattle.cs_cindex.specs.Output.{AreTooMany, IsMidway, IsSilent, JobPrintsBy, JobTree, Output, UnreadPrints, WalkPrints, WalkPrintsPrefix, WalkPrintsSome, after, before, index_lines, is_failed_write, job_tree, list_lines, output, path_lines, paths_lines}
 pub use Rattle.cs_cindex.specs.Refusals.{EarlyOr, HasCause, IsDamaged, IsLateFault, IsOutputFault, IsWalkFault, base, base_fault, early_fault, early_fault_of, early_walk_fault, list_fault, opening_fault, unfit_parts_fault}
@@ -32,7 +32,7 @@ pub use Rattle.cs_index.specs.Stored.{StandsIn, StoredParts}
 pub use Rattle.cs_index.specs.Tables.{OpensAs, OpensAsTables, TableParts}
 pub use Rattle.cs_index.specs.declared.fault.IndexFault.{IndexFault}
 pub use Rattle.cs_merge.proofs.DecodedContentLemmas.{from_list_all, map_of_entries, set_of_items}
-pub use Rattle.cs_output.specs.declared.sent.Sent.{Sent}
+pub use Rattle.cs_output.specs.declared.output.Sent.{Sent}
 pub use Rattle.cs_tree.proofs.GrowsLemmas.{Grows-chain, Grows-same, leaves_flushed}
 pub use Rattle.cs_tree.proofs.PathSetLemmas.{alike, entries_in_order, same_set, tied_is, tied_same}
 pub use Rattle.cs_tree.proofs.PrefixLemmas.{prefix_all, prefix_left, prefix_none, prefix_right}

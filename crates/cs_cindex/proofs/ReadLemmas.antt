@@ -4,7 +4,8 @@ use Rattle.std.proofs.lemmas.Option.{none-some, same_Some}
 use Rattle.std.specs.Prelude.{IsSome, option_map}
 use Rattle.cs_tree.specs.ConsumesAtMost.{ConsumesAtMost}
 use Rattle.cs_tree.specs.ReadCounts.{ReadCounts, after_open}
-use Rattle.cs_tree.specs.Reads.{BytesWithin, ReadsWithin, ReadsNothing, bytes_read}
+use Rattle.cs_tree.specs.Reads.{ReadsWithin}
+use Rattle.cs_tree.specs.ReadsNothing.{ReadsNothing, bytes_read}
 use Rattle.cs_tree.specs.Snapshot.{Snapshot}
 use Rattle.cs_tree.specs.StreamModels.{SourceModel}
 use Rattle.cs_tree.specs.TreeReaders.{HasRead, open_model}
@@ -12,7 +13,7 @@ use Rattle.cs_tree.specs.Trees.{OpensFile}
 use Rattle.cs_tree.proofs.ReadCountLemmas.{reads_open}
 use Rattle.cs_trigram.specs.Text.{limits}
 use Rattle.cs_cindex.proofs.Common.{longest_path, RequestsWithin, reads_nothing, reads_on, requests_none, requests_on, requests_one}
-use Rattle.cs_cindex.specs.KeepsTree.{KeepsTree}
+use Rattle.cs_cindex.specs.KeepsTree.{KeepsTree, BytesWithin}
 use Rattle.cs_cindex.specs.ReadsFiles.{ReadsFile, ReadsFiles}
 
 pub bytes_none : (limit : ℕ) (a : Option ReadCounts) → BytesWithin limit a a

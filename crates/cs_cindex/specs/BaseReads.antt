@@ -7,9 +7,9 @@ use Rattle.cs_index.specs.OpenedParts.{Parts}
 use Rattle.cs_index.specs.Tables.{TableParts}
 use Rattle.cs_index.specs.declared.fault.IndexFault.{IndexFault}
 use Rattle.cs_args.specs.declared.fault.CindexFault.{CindexFault}
-use Rattle.cs_output.specs.declared.sent.Sent.{Sent}
+use Rattle.cs_output.specs.declared.output.Sent.{Sent}
 use Rattle.cs_cindex.specs.Merges.{IsMergeRefusal, MergesShort}
-use Rattle.cs_cindex.specs.OldIndex.{IsFitFor}
+use Rattle.cs_cindex.specs.FitTables.{IsFitFor}
 use Rattle.cs_cindex.specs.Output.{is_failed_write}
 use Rattle.cs_cindex.specs.Refusals.{EarlyOr, IsOutputFault, opening_fault, unfit_parts_fault}
 

@@ -7,7 +7,8 @@ use Rattle.cs_tree.specs.Snapshot.{Snapshot}
 use Rattle.cs_tree.specs.Sinks.{SinkModel, Grows}
 use Rattle.cs_tree.specs.TakesPrefix.{TakesPrefix}
 use Rattle.cs_index.specs.Encoding.{Entry, names_of}
-use Rattle.cs_index.specs.Built.{is_storable, is_above, max_names}
+use Rattle.cs_index.specs.Built.{is_storable, is_above}
+use Rattle.cs_index.specs.MaxNames.{max_names}
 use Rattle.cs_args.specs.declared.fault.CindexFault.{CindexFault}
 use Rattle.cs_args.specs.declared.fault.CindexFault.TheVariants.{TooLarge, Write, Memory}
 use Rattle.cs_history.specs.FileTrigrams.{file_trigrams}

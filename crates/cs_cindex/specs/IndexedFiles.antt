@@ -1,11 +1,12 @@
 -- What indexing some files answers and leaves.
 use Rattle.std.specs.Prelude.{◌≡◌, ◌≤◌, ◌⊎◌, ◌++◌, ℕ, Bool, List, length, Some, IfOk, IfErr, OnOk, MatchResult, Result, Err, option_to_list}
 use Rattle.cs_tree.specs.FailureCount.{count_after}
-use Rattle.cs_index.specs.Built.{Built, IsBuilt, max_names}
+use Rattle.cs_index.specs.Built.{Built, IsBuilt}
+use Rattle.cs_index.specs.MaxNames.{max_names}
 use Rattle.cs_index.specs.Encoding.{Entry, encoding_of}
 use Rattle.cs_args.specs.declared.fault.CindexFault.{CindexFault}
 use Rattle.cs_args.specs.declared.fault.CindexFault.TheVariants.{TooLarge, Memory}
-use Rattle.cs_output.specs.declared.sent.Sent.{Sent}
+use Rattle.cs_output.specs.declared.output.Sent.{Sent}
 use Rattle.cs_history.specs.Premises.{IsShort}
 use Rattle.cs_history.specs.Replies.{IsLong}
 use Rattle.cs_cindex.specs.Effects.{Effects}

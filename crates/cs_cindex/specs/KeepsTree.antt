@@ -1,12 +1,16 @@
 -- What a job leaves of its tree. docs/PROMISES.md, "Jobs of cindex".
-use Rattle.std.specs.Prelude.{◌≡◌, ◌+◌, ℕ, List, map, Option}
+use Rattle.std.specs.Prelude.{◌≡◌, ◌≤◌, ◌+◌, ℕ, max, List, map, Option, IfSome, IsSomeAnd}
 use Rattle.std.specs.List.{AllZip}
 use Rattle.cs_tree.specs.Clean.{longest_path}
 use Rattle.cs_tree.specs.ReadCounts.{ReadCounts}
-use Rattle.cs_tree.specs.Reads.{BytesWithin}
 use Rattle.cs_tree.specs.Snapshot.{Snapshot}
 use Rattle.cs_tree.specs.Walks.{RequestsWithin}
 use Rattle.cs_trigram.specs.Text.{limits}
+
+-- at most this many bytes were read from each opened file
+abbrev pub BytesWithin : ℕ → Option ReadCounts → Option ReadCounts → Type 0
+BytesWithin limit counts later =
+    IfSome counts (λ (was : ReadCounts). IsSomeAnd later (λ (now : ReadCounts). now.most ≤ max was.most limit))
 
 module _ {T : Type 0} (snapshot : T → Option Snapshot) (longest : T → Option ℕ) (counts : T → Option ReadCounts) where
   -- No call had a path of more than 4095 bytes, of each opened file no more was read than a scan reads, and the model is

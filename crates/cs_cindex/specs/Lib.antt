@@ -25,5 +25,6 @@ pub mod Effects
 pub mod IndexedFiles
 pub mod WalkAnswers
 pub mod Listed
+pub mod FitTables
 pub mod BaseReads
 pub mod ReadsFiles

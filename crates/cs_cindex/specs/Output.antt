@@ -7,7 +7,7 @@ use Rattle.cs_tree.specs.Folders.{IsTree}
 use Rattle.cs_tree.specs.PathSet.{Paths}
 use Rattle.cs_tree.specs.Reachability.{reachable_files}
 use Rattle.cs_trigram.specs.Text.{limits, text_trigrams}
-use Rattle.cs_index.specs.Built.{max_names}
+use Rattle.cs_index.specs.MaxNames.{max_names}
 use Rattle.std.specs.FinMap as map'
 use Rattle.cs_index.specs.Opening.{opening}
 use Rattle.cs_index.specs.OpenedParts.{Parts}

@@ -1,4 +1,5 @@
-// Adds the files of a tree to an index, one after the other.
+// The index of the files below some paths: reads the files that a walk finds, and adds them one
+// after the other.
 ghost use Rattle.std.specs.Prelude.{◌≡◌, true, [], map, string_bytes, IfOk, IfErr};
 ghost use Rattle.cs_tree.specs.NamesAscending.{are_ascending};
 ghost use Rattle.cs_tree.specs.Walks.{AreWithinPathLimit};
@@ -7,17 +8,19 @@ ghost use Rattle.cs_index.specs.Encoding.{names_of};
 ghost use Rattle.cs_cindex.specs.Effects.{effects};
 ghost use Rattle.cs_cindex.specs.IndexedFiles.{FinishesIndex, IndexesFiles, NotesFile};
 ghost use Rattle.cs_cindex.specs.Output.{output};
-ghost use Rattle.cs_cindex.specs.ReadsFiles.{ReadsFiles};
+ghost use Rattle.cs_cindex.specs.ReadsFiles.{ReadsFiles, ReadsFile};
 ghost use Rattle.cs_cindex.specs.Sends.{Sends};
-ghost use Rattle.cs_cindex.specs.Verdicts.{HasTrigramsOnce};
+ghost use Rattle.cs_cindex.specs.Verdicts.{HasTrigramsOnce, IsVerdictIn, count_read};
+ghost use Rattle.cs_tree.specs.PathSet as set;
+ghost use Rattle.cs_cindex.specs.KeepsTree.{KeepsTree};
+ghost use Rattle.cs_cindex.specs.WalkAnswers.{IndexesWalk};
 
-use crate::printing::{print_fault, print_skipped};
-use crate::verdicts::{Verdict, read_file};
+use crate::printing::{print_fault, print_skipped, print_walk_faults};
 use cs_args::{CindexFault, FileFault};
 use cs_index::{BuildFault, Builder};
 use cs_output::{Output, Sent};
-use cs_tree::{Sink, Tree};
-use cs_trigram::{Scan, Scanner};
+use cs_tree::{Sink, Tree, TreeReader, Walked, walk};
+use cs_trigram::{Scan, ScanFault, Scanner};
 use std::alloc::{AllocError, Global};
 
 /// The state of indexing.
@@ -151,5 +154,79 @@ impl Indexer {
             Err(BuildFault::TooLarge) => Err(CindexFault::TooLarge),
             Err(_) => Err(CindexFault::Memory),
         }
+    }
+}
+
+/// What a walk found.
+struct Found {
+    walked: Walked,
+}
+
+// A body that owns it drops it by a call. A derived `drop` would stand there with the loops over
+// both lists.
+impl Drop for Found {
+    fn drop(self) {
+        let Found { walked: _walked } = self;
+    }
+}
+
+/// Sends an index of the paths and of the text files that a walk from them finds to `new`.
+///
+/// The diagnostics go to `err`: one for each path that the walk cannot read, ascending; then, in
+/// name order, one for each file that cannot be read to its end, and with `log_skip` one for each
+/// other file that is skipped. A name that no index can store, such as one with a NUL, which no
+/// file system lists, has the line `name is not text`.
+///
+/// # Errors
+///
+/// `Write` if a diagnostic cannot be written, `TooLarge` if the index would have more than 2^32 - 1
+/// bytes, `Memory` if an allocation fails.
+pub(crate) fn index_paths<T: Tree, W: Output, E: Sink>(
+    alloc: Global,
+    tree: &mut T,
+    paths: &[String],
+    log_skip: bool,
+    new: &mut W,
+    err: &mut E,
+) -> Result<Sent, CindexFault>
+    requires { are_paths (map string_bytes paths.now) ≡ true }
+    ensures walk { IndexesWalk result (λ index. index.bytes) log_skip
+        (set.from_list (map string_bytes paths.now))
+        (effects T.snapshot T.failed E.model E.failed tree.old tree.new err.old err.new) }
+    ensures sends { Sends W.given W.Keeps new.old new.new result }
+    ensures tree { KeepsTree T.snapshot T.longest_requested T.read_counts tree.old tree.new }
+{
+    let mut indexer = Indexer::new(alloc, paths, log_skip)?;
+    let walked = walk(alloc, tree, paths)?;
+    let found = Found { walked };
+    print_walk_faults(alloc, &found.walked.faults, err)?;
+    indexer.index_files(tree, &found.walked.names, err)?;
+    indexer.finish_into(new)
+}
+
+/// The scan of a file, with the distinct trigrams of a text, or why it cannot be read to its end.
+pub(crate) type Verdict<'a> = Result<Scan<&'a [u32]>, FileFault>;
+
+/// Reads the file at a name. Reading ends at the first byte that breaks a rule of text files.
+fn read_file<'a, T: Tree>(
+    scanner: &'a mut Scanner,
+    tree: &mut T,
+    name: &str,
+) -> Result<Verdict<'a>, AllocError>
+    ensures model { IfOk result (λ verdict. IsVerdictIn (T.snapshot tree.old) name.now verdict) }
+    ensures once { IfOk result HasTrigramsOnce }
+    ensures counted { T.failed tree.new ≡ count_read result (T.failed tree.old) }
+    ensures tree { ReadsFile T.snapshot T.longest_requested T.read_counts name.now
+        tree.old tree.new }
+{
+    if let Err(fault) = tree.open(name) {
+        let fault = FileFault::of_tree(fault)?;
+        return Ok(Err(fault));
+    }
+    let mut reader = TreeReader::new(tree);
+    match scanner.gather(&mut reader) {
+        Ok(scan) => Ok(Ok(scan)),
+        Err(ScanFault::Read) => Ok(Err(FileFault::Failed)),
+        Err(ScanFault::Memory) => Err(AllocError),
     }
 }

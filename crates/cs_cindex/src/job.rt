@@ -1,16 +1,17 @@
-// One job.
-ghost use Rattle.std.specs.Prelude.{ℕ, List, Option, option_map, vec_items, IfOk, option_copied};
+// Jobs: one, and lists of them.
+ghost use Rattle.std.specs.Prelude.{ℕ, List, Option, option_map, vec_items, IfOk, option_copied, ◌≡◌, map, length, All, zip};
 ghost use Rattle.cs_cindex.specs.KeepsOldIndex.{KeepsOldIndex};
-ghost use Rattle.cs_cindex.specs.KeepsTree.{KeepsTree};
+ghost use Rattle.cs_cindex.specs.KeepsTree.{KeepsTree, KeepsTrees};
 ghost use Rattle.cs_cindex.specs.OldIndex.{IsIndex};
 ghost use Rattle.cs_cindex.specs.Outcomes.{IsStepTo, IsWholeStepTo, RightAfter, reply_of};
 ghost use Rattle.cs_cindex.specs.Output.{job_tree};
 ghost use Rattle.cs_cindex.specs.RunsJob.{RunsJob};
 ghost use Rattle.cs_cindex.specs.Sends.{SendsUpdate};
-ghost use Rattle.cs_cindex.specs.Steps.{IsWholeStep, LeavesFlushed, outputs, state};
+ghost use Rattle.cs_cindex.specs.Steps.{IsWholeStep, LeavesFlushed, outputs, state, RightAll, Steps, job_trees};
 ghost use Rattle.cs_history.specs.Jobs.{HasAbsoluteFolder};
+ghost use Rattle.cs_history.specs.Headline.{Indexes};
 
-use crate::listing::list_old;
+use crate::printing::list_old;
 use crate::walked::walked_index;
 use cs_args::{CindexFault, IndexJob, Reply};
 use cs_output::Output;
@@ -23,45 +24,6 @@ use std::alloc::Global;
 pub struct JobCall<'a> {
     pub alloc: Global,
     pub job: &'a IndexJob,
-}
-
-/// Runs a job over the bytes of the old index, and returns the index after it and its reply.
-pub(crate) fn do_job<T: Tree, O: Sink, E: Sink>(
-    alloc: Global,
-    old: Option<Vec<u8>>,
-    job: &IndexJob,
-    tree: &mut T,
-    out: &mut O,
-    err: &mut E,
-) -> (Option<Vec<u8>>, Reply)
-    requires { HasAbsoluteFolder job.now }
-    ensures replies { RightAfter (T.snapshot tree.old) (option_map vec_items old) job.now result.1 }
-    ensures step { IsWholeStep job.now (job_tree T.snapshot T.failed tree.old tree.new) result.1
-        (state O.model O.failed E.model E.failed (option_map vec_items old) out.old err.old)
-        (state O.model O.failed E.model E.failed (option_map vec_items result.0) out.new err.new) }
-    ensures tree { KeepsTree T.snapshot T.longest_requested T.read_counts tree.old tree.new }
-{
-    let mut store = stored(old.as_deref());
-    let mut new = Vec::new(alloc);
-    match cindex_stored(JobCall { alloc, job }, &mut store, tree, &mut new, out, err) {
-        Ok(Ok(IndexUpdate::Keep)) => (old, Reply::Done),
-        Ok(Ok(IndexUpdate::Remove)) => (None, Reply::Done),
-        Ok(Ok(IndexUpdate::Write(_))) => (Some(new), Reply::Done),
-        // A job that fails leaves the old index.
-        Ok(Err(fault)) => (old, Reply::Refused(fault)),
-        // No read of a store in memory fails.
-        Err(_) => unreachable!(),
-    }
-}
-
-/// A store of the bytes of an index, if there is one.
-fn stored<'a>(old: Option<&'a [u8]>) -> Option<MemStore<'a>>
-    ensures { IsIndex ⟦<MemStore<'a> as Store>⟧.model result (option_copied old.entry) }
-{
-    match old {
-        Some(bytes) => Some(MemStore::new(bytes, usize::MAX)),
-        None => None,
-    }
 }
 
 /// Runs a job as `cindex` does, over an old index in a store, and sends the bytes of the new index
@@ -108,6 +70,80 @@ pub fn cindex_stored<S: Store, T: Tree, W: Output, O: Sink, E: Sink>(
         return Ok(Err(CindexFault::from(fault)));
     }
     Ok(Ok(update))
+}
+
+/// Runs the jobs in order, each over its tree, and returns the index after them; `None` is no
+/// index. Each reply is the result of its job: a job that fails leaves the index unchanged, and the
+/// next job runs. Paths of the index are printed on `out`, and diagnostics of skipped paths and
+/// files on `err`. Each job that has not failed by then ends by flushing `out`, then `err`, once
+/// each, before its index is kept.
+pub fn cindex<T: Tree, O: Sink, E: Sink>(
+    alloc: Global,
+    old: Option<Vec<u8>>,
+    jobs: &[IndexJob],
+    trees: &mut [T],
+    replies: &mut [Reply],
+    out: &mut O,
+    err: &mut E,
+) -> Option<Vec<u8>>
+    requires trees { length trees.old ≡ length jobs.now }
+    requires replies { length replies.old ≡ length jobs.now }
+    requires folders { All HasAbsoluteFolder jobs.now }
+    ensures indexes { Indexes jobs.now (map T.snapshot trees.old) replies.new
+        (option_map vec_items old) (option_map vec_items result) }
+    ensures replies { RightAll (map T.snapshot trees.old) (option_map vec_items old)
+        jobs.now replies.new }
+    ensures steps { Steps (zip jobs.now (zip (job_trees T.snapshot T.failed trees.old trees.new) replies.new))
+        (state O.model O.failed E.model E.failed (option_map vec_items old) out.old err.old)
+        (state O.model O.failed E.model E.failed (option_map vec_items result) out.new err.new) }
+    ensures trees { KeepsTrees T.snapshot T.longest_requested T.read_counts trees.old trees.new }
+{
+    let mut index = old;
+    'jobs: for i in 0..jobs.len() {
+        let (next, reply) = do_job(alloc, index, &jobs[i], &mut trees[i], out, err);
+        index = next;
+        replies[i] = reply;
+    }
+    index
+}
+
+/// Runs a job over the bytes of the old index, and returns the index after it and its reply.
+fn do_job<T: Tree, O: Sink, E: Sink>(
+    alloc: Global,
+    old: Option<Vec<u8>>,
+    job: &IndexJob,
+    tree: &mut T,
+    out: &mut O,
+    err: &mut E,
+) -> (Option<Vec<u8>>, Reply)
+    requires { HasAbsoluteFolder job.now }
+    ensures replies { RightAfter (T.snapshot tree.old) (option_map vec_items old) job.now result.1 }
+    ensures step { IsWholeStep job.now (job_tree T.snapshot T.failed tree.old tree.new) result.1
+        (state O.model O.failed E.model E.failed (option_map vec_items old) out.old err.old)
+        (state O.model O.failed E.model E.failed (option_map vec_items result.0) out.new err.new) }
+    ensures tree { KeepsTree T.snapshot T.longest_requested T.read_counts tree.old tree.new }
+{
+    let mut store = stored(old.as_deref());
+    let mut new = Vec::new(alloc);
+    match cindex_stored(JobCall { alloc, job }, &mut store, tree, &mut new, out, err) {
+        Ok(Ok(IndexUpdate::Keep)) => (old, Reply::Done),
+        Ok(Ok(IndexUpdate::Remove)) => (None, Reply::Done),
+        Ok(Ok(IndexUpdate::Write(_))) => (Some(new), Reply::Done),
+        // A job that fails leaves the old index.
+        Ok(Err(fault)) => (old, Reply::Refused(fault)),
+        // No read of a store in memory fails.
+        Err(_) => unreachable!(),
+    }
+}
+
+/// A store of the bytes of an index, if there is one.
+fn stored<'a>(old: Option<&'a [u8]>) -> Option<MemStore<'a>>
+    ensures { IsIndex ⟦<MemStore<'a> as Store>⟧.model result (option_copied old.entry) }
+{
+    match old {
+        Some(bytes) => Some(MemStore::new(bytes, usize::MAX)),
+        None => None,
+    }
 }
 
 /// The change of the index by a job, before the outputs are flushed.

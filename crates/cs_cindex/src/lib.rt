@@ -25,16 +25,10 @@
 //! file is skipped too, and has a diagnostic only under `-logskip`.
 #![tactic(auto)]
 
-mod cindexing;
-mod cleaning;
 mod indexer;
-mod indexing;
 mod job;
-mod listing;
 mod old;
 mod printing;
-mod verdicts;
 mod walked;
 
-pub use cindexing::cindex;
-pub use job::{JobCall, cindex_stored};
+pub use job::{JobCall, cindex, cindex_stored};

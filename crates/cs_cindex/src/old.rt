@@ -7,7 +7,7 @@ ghost use Rattle.cs_tree.specs.Folders.{are_distinct};
 ghost use Rattle.cs_tree.specs.Cleaning.{is_normalized as is_normalized'};
 ghost use Rattle.cs_tree.specs.KeepsStore.{KeepsStore};
 ghost use Rattle.cs_cindex.specs.BaseReads.{OnlyReads, OpensBase};
-ghost use Rattle.cs_cindex.specs.OldIndex.{IsFit};
+ghost use Rattle.cs_cindex.specs.FitTables.{IsFit};
 ghost use Rattle.cs_cindex.specs.Output.{is_failed_write};
 
 use cs_args::CindexFault;

@@ -1,5 +1,5 @@
-// Jobs that walk.
-ghost use Rattle.std.specs.Prelude.{◌≡◌, ℕ, List, false, Some, None, map, string_bytes, IfOk, IfErr};
+// Jobs that walk, and their cleaned paths.
+ghost use Rattle.std.specs.Prelude.{◌≡◌, ℕ, List, false, Some, None, map, string_bytes, IfOk, IfErr, true, MatchResult};
 ghost use Rattle.cs_tree.specs.FailureCount.{count_after};
 ghost use Rattle.cs_tree.specs.KeepsStore.{KeepsStore};
 ghost use Rattle.cs_tree.specs.PathSet as set;
@@ -9,26 +9,30 @@ ghost use Rattle.cs_index.specs.Tables.{TablesIn};
 ghost use Rattle.cs_history.specs.Jobs.{HasAbsoluteFolder};
 ghost use Rattle.cs_cindex.specs.BaseReads.{AnswersMerge, OnlyReads};
 ghost use Rattle.cs_cindex.specs.Effects.{effects};
-ghost use Rattle.cs_cindex.specs.JobPaths.{AreCleaned, walk_starts};
+ghost use Rattle.cs_cindex.specs.JobPaths.{AreCleaned, walk_starts, IsCleanFault, AreCleanFault};
 ghost use Rattle.cs_cindex.specs.KeepsOldIndex.{KeepsOldIndex};
 ghost use Rattle.cs_cindex.specs.KeepsTree.{KeepsTree};
 ghost use Rattle.cs_cindex.specs.Merges.{refusal_of};
 ghost use Rattle.cs_cindex.specs.Next.{IsReducedIndex};
-ghost use Rattle.cs_cindex.specs.OldIndex.{IsFit, IsIndex};
+ghost use Rattle.cs_cindex.specs.FitTables.{IsFit};
+ghost use Rattle.cs_cindex.specs.OldIndex.{IsIndex};
 ghost use Rattle.cs_cindex.specs.Output.{is_failed_write};
 ghost use Rattle.cs_cindex.specs.Refusals.{base, base_fault, early_walk_fault};
 ghost use Rattle.cs_cindex.specs.Sends.{Sends, SendsOver};
 ghost use Rattle.cs_cindex.specs.WalkAnswers.{AnswersWalk, IndexesWalk, WalksOver};
+ghost use Rattle.cs_tree.specs.Cover.{is_absolute};
+ghost use Rattle.cs_tree.specs.Clean.{clean_path};
+ghost use Rattle.cs_tree.specs.Cleaning.{clean_fault};
+ghost use Rattle.cs_history.specs.Replies.{first_bad};
 
-use crate::cleaning::clean_all;
-use crate::indexing::index_paths;
+use crate::indexer::index_paths;
 use crate::job::JobCall;
 use crate::old::{copied, open_old};
 use cs_args::{CindexFault, IndexJob};
 use cs_index::{Index, IndexFault, Tables};
 use cs_merge::{MergeFault, is_replaced, is_whole_stored, merge_stored};
 use cs_output::{Output, Sent};
-use cs_tree::{IoFault, Sink, Store, Tree, reduce};
+use cs_tree::{IoFault, PathFault, Sink, Store, Tree, clean, reduce};
 use std::alloc::{AllocError, Global};
 
 /// Sends the index after a job that walks, over the old index, or over none with `-reset`.
@@ -57,6 +61,30 @@ pub(crate) fn walked_index<S: Store, T: Tree, W: Output, E: Sink>(
         Some(store) if !job.reset => extended_index(call, store, &given, tree, new, err),
         _ => Ok(new_index(alloc, &given, job, tree, new, err)),
     }
+}
+
+/// Cleans the paths: makes each absolute and lexically clean.
+///
+/// # Errors
+///
+/// `BadPath` with the index of the first path that cannot be cleaned.
+pub(crate) fn clean_all(
+    alloc: Global,
+    folder: &str,
+    paths: &[String],
+) -> Result<Vec<String>, CindexFault>
+    requires { is_absolute folder.now ≡ true }
+    ensures cleaned { IfOk result (λ given. map string_bytes given.items ≡
+        map (λ text. clean_path folder.now text) (map string_bytes paths.now)) }
+    ensures fault { MatchResult result (λ _. first_bad folder.now (map string_bytes paths.now) ≡ None)
+        (λ fault. AreCleanFault folder.now (map string_bytes paths.now) fault) }
+{
+    let mut given = Vec::new(alloc);
+    'paths: for (path_index, path) in paths.iter().enumerate() {
+        let cleaned = clean_one(alloc, folder, path, path_index)?;
+        given.push(cleaned)?;
+    }
+    Ok(given)
 }
 
 /// Sends the index of what the job finds below its cleaned paths, without a base index.
@@ -220,5 +248,24 @@ fn merge_refusal(fault: MergeFault) -> CindexFault
         MergeFault::Index(fault) => CindexFault::from(fault),
         MergeFault::TooLarge => CindexFault::TooLarge,
         MergeFault::Memory => CindexFault::Memory,
+    }
+}
+
+/// Cleans the path with this index.
+fn clean_one(
+    alloc: Global,
+    folder: &str,
+    path: &str,
+    path_index: usize,
+) -> Result<String, CindexFault>
+    requires { is_absolute folder.now ≡ true }
+    ensures cleaned { IfOk result (λ given. string_bytes given ≡ clean_path folder.now path.now) }
+    ensures fault { MatchResult result (λ _. clean_fault folder.now path.now ≡ None)
+        (λ fault. IsCleanFault folder.now path.now path_index fault) }
+{
+    match clean(alloc, folder, path) {
+        Ok(given) => Ok(given),
+        Err(PathFault::Memory) => Err(CindexFault::Memory),
+        Err(_) => Err(CindexFault::BadPath(path_index)),
     }
 }

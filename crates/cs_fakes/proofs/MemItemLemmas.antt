@@ -20,10 +20,10 @@ use Rattle.cs_fakes.specs.MemTrees.{snapshot_of, pair_of, item_of, left_of, left
 use Rattle.cs_fakes.specs.MemItems.{entry_index, unlisted_pair}
 use Rattle.cs_tree.specs.StreamModels.{SourceModel, ends, fails}
 use Rattle.cs_tree.specs.Trees.{TreeReadGives}
-use Rattle.cs_fakes.specs.declared.tree_types.Names.{Names}
-use Rattle.cs_fakes.specs.declared.tree_types.MemEntry.{MemEntry}
-use Rattle.cs_fakes.specs.declared.tree_types.MemItem.{MemItem}
-use Rattle.cs_fakes.specs.declared.tree_types.MemItem.TheVariants.{Folder, File, Cut, Other, Denied}
+use Rattle.cs_fakes.specs.declared.types.Names.{Names}
+use Rattle.cs_fakes.specs.declared.types.MemEntry.{MemEntry}
+use Rattle.cs_fakes.specs.declared.types.MemItem.{MemItem}
+use Rattle.cs_fakes.specs.declared.types.MemItem.TheVariants.{Folder, File, Cut, Other, Denied}
 use Rattle.cs_tree.proofs.PathSetLemmas.{alike, tied_is, tied_same}
 
 pub tied-same : (p q : List ℕ) → eq_by_cmp bytes_cmp p q ≡ bytes_eq q p

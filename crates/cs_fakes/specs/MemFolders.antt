@@ -2,13 +2,13 @@
 use Rattle.std.specs.Prelude.{ℕ, ◌-◌, ◌^◌, Bool, false, List, map, drop, Option, Some, None, option_map, is_some, unwrap_or, if◌then◌else◌, Vec, Result, Ok, Err}
 use Rattle.std.specs.declared.alloc.Global.{Global}
 use Rattle.cs_storage.specs.Storing.{Folder, OwnFile, Left, absent, whole, torn}
-use Rattle.cs_storage.specs.declared.fault.StorageFault.{StorageFault}
-use Rattle.cs_fakes.specs.declared.folder_types.MemFolder.{MemFolder}
-use Rattle.cs_fakes.specs.declared.folder_types.MemFile.{MemFile}
-use Rattle.cs_fakes.specs.declared.folder_types.MemIndex.{MemIndex}
-use Rattle.cs_fakes.specs.declared.folder_types.MemVisit.{MemVisit}
-use Rattle.cs_fakes.specs.declared.folder_types.MemLeft.{MemLeft}
-use Rattle.cs_fakes.specs.declared.folder_types.MemLeft.TheVariants.{Absent, Whole, Torn}
+use Rattle.cs_storage.specs.declared.folder.StorageFault.{StorageFault}
+use Rattle.cs_fakes.specs.declared.types.MemFolder.{MemFolder}
+use Rattle.cs_fakes.specs.declared.types.MemFile.{MemFile}
+use Rattle.cs_fakes.specs.declared.types.MemIndex.{MemIndex}
+use Rattle.cs_fakes.specs.declared.types.MemVisit.{MemVisit}
+use Rattle.cs_fakes.specs.declared.types.MemLeft.{MemLeft}
+use Rattle.cs_fakes.specs.declared.types.MemLeft.TheVariants.{Absent, Whole, Torn}
 
 abbrev pub left_view : MemLeft → Left
 left_view Absent = absent

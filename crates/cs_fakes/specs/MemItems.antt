@@ -6,7 +6,7 @@ use Rattle.cs_fakes.specs.Changes.{without_listed_names}
 use Rattle.cs_tree.specs.StreamModels.{SourceModel}
 use Rattle.cs_tree.specs.declared.fault.TreeFault.{TreeFault}
 use Rattle.cs_tree.specs.declared.fault.TreeFault.TheVariants.{Memory}
-use Rattle.cs_fakes.specs.declared.tree_types.MemEntry.{MemEntry}
+use Rattle.cs_fakes.specs.declared.types.MemEntry.{MemEntry}
 
 -- the item without the names that the path covers
 abbrev pub unlisted_pair : List ℕ → List ℕ × Item → List ℕ × Item

@@ -6,11 +6,11 @@ use Rattle.cs_tree.specs.StreamModels.{SourceModel, source_model}
 use Rattle.cs_tree.specs.ReadCounts.{ReadCounts}
 use Rattle.cs_fakes.specs.declared.mem_tree.Item.{Item as Put}
 use Rattle.cs_fakes.specs.declared.mem_tree.Item.TheVariants as put
-use Rattle.cs_fakes.specs.declared.tree_types.MemTree.{MemTree}
-use Rattle.cs_fakes.specs.declared.tree_types.Names.{Names}
-use Rattle.cs_fakes.specs.declared.tree_types.MemEntry.{MemEntry}
-use Rattle.cs_fakes.specs.declared.tree_types.MemItem.{MemItem}
-use Rattle.cs_fakes.specs.declared.tree_types.MemItem.TheVariants.{Folder, File, Cut, Other, Denied}
+use Rattle.cs_fakes.specs.declared.types.MemTree.{MemTree}
+use Rattle.cs_fakes.specs.declared.types.Names.{Names}
+use Rattle.cs_fakes.specs.declared.types.MemEntry.{MemEntry}
+use Rattle.cs_fakes.specs.declared.types.MemItem.{MemItem}
+use Rattle.cs_fakes.specs.declared.types.MemItem.TheVariants.{Folder, File, Cut, Other, Denied}
 
 -- an item to put, as an item of a snapshot
 abbrev pub item_put : Put → Item

@@ -1,9 +1,48 @@
-// Fixtures of several crates of tests. They have no contract, since no proof depends on what they
-// return.
+// Fixtures of several crates of tests, without contracts, since no proof depends on what they
+// return; and a store whose bytes change.
+ghost use Rattle.std.specs.Prelude.{◌≡◌, ◌≤◌, length};
+
 use cs_index::{BuildFault, Builder};
-use cs_tree::MemSource;
+use cs_tree::{IoFault, MemSource, Store};
 use cs_trigram::{Scan, Scanner};
 use std::alloc::{AllocError, Global};
+
+/// Bytes that change after some reads: then each read fails, or gives the bytes of `then`.
+#[derive(Drop)]
+pub struct ChangingStore<'a> {
+    first: &'a [u8],
+    then: Option<&'a [u8]>,
+    reads: usize,
+    failed: u64,
+}
+
+impl<'a> Store for ChangingStore<'a> {
+    ghost size = { λ s. length s.first.now };
+
+    ghost failed = { λ s. s.failed };
+
+    fn len(&self) -> usize {
+        self.first.len()
+    }
+
+    fn read_at(&mut self, buf: &mut [u8], at: usize) -> Result<usize, IoFault> {
+        let bytes = if self.reads > 0 {
+            self.reads -= 1;
+            Some(self.first)
+        } else {
+            self.then
+        };
+        let Some(bytes) = bytes else {
+            self.failed = self.failed.saturating_add(1);
+            return Err(IoFault::Failed);
+        };
+        Ok(fill(buf, bytes.get(at..).unwrap_or(b"")))
+    }
+
+    fn failures(&self) -> u64 {
+        self.failed
+    }
+}
 
 /// Names and the texts of the files.
 pub type Files<'a> = &'a [(&'a str, &'a [u8])];
@@ -56,6 +95,17 @@ pub fn index_of(alloc: Global, paths: &[&str], files: Files<'_>) -> Option<Vec<u
     builder.finish().ok()
 }
 
+/// A store with the bytes of `ONE_FILE` for this number of reads; then each read fails, or gives
+/// the bytes of `then`.
+pub fn one_file_until(reads: usize, then: Option<&[u8]>) -> ChangingStore<'_> {
+    ChangingStore {
+        first: ONE_FILE,
+        then,
+        reads,
+        failed: 0,
+    }
+}
+
 /// Adds files, which have to be text.
 fn add_files(alloc: Global, builder: &mut Builder, files: Files<'_>) -> Option<()> {
     let mut scanner = Scanner::new(alloc).ok()?;
@@ -71,4 +121,14 @@ fn add_file(builder: &mut Builder, scanner: &mut Scanner, name: &str, text: &[u8
         Ok(Scan::Text { trigrams, .. }) => builder.add(name, trigrams).ok(),
         _ => None,
     }
+}
+
+/// Fills the buffer with a prefix of the bytes, and returns its length.
+fn fill(buf: &mut [u8], bytes: &[u8]) -> usize
+    ensures len { length buf.new ≡ length buf.old }
+    ensures within { result ≤ length buf.new }
+{
+    let n = buf.len().min(bytes.len());
+    buf[..n].copy_from_slice(&bytes[..n]);
+    n
 }

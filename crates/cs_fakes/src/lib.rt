@@ -14,21 +14,17 @@
 //! contract, since no proof depends on what they return.
 #![tactic(auto)]
 
-mod changing_store;
 mod fixtures;
-mod folder_types;
 mod fuse_tree;
 mod mem_folder;
-mod mem_index;
 mod mem_items;
 mod mem_tree;
-mod names;
-mod paths;
-mod tree_types;
+mod types;
 
-pub use changing_store::{ChangingStore, one_file_until};
-pub use fixtures::{Files, ONE_FILE, UNSORTED, builder_of, changed, index_of, number, strings};
-pub use folder_types::{MemFolder, MemIndex, MemLeft};
+pub use fixtures::{
+    ChangingStore, Files, ONE_FILE, UNSORTED, builder_of, changed, index_of, number,
+    one_file_until, strings,
+};
 pub use fuse_tree::FuseTree;
 pub use mem_tree::{Item, PutFault};
-pub use tree_types::MemTree;
+pub use types::{MemFolder, MemIndex, MemLeft, MemTree};

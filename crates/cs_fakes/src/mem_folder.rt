@@ -1,11 +1,13 @@
-// A folder in memory.
-ghost use Rattle.std.specs.Prelude.{◌≡◌, ◌<◌, ◌++◌, ◌∷◌, [], ◌↔◌, Some, None, Ok, IfOk, OnOk, OnErr, IsOk, IsErr, IsSome, IsTrue, map, option_map, unwrap_or};
+// A folder in memory, and its opened index file.
+ghost use Rattle.std.specs.Prelude.{◌≡◌, ◌<◌, ◌++◌, ◌∷◌, [], ◌↔◌, Some, None, Ok, IfOk, OnOk, OnErr, IsOk, IsErr, IsSome, IsTrue, map, option_map, unwrap_or, length};
 ghost use Rattle.cs_storage.specs.Storing.{Moves, Compares, ChangesNothing, HasBytesOf, Renames, Removes, left_renamed, left_whole};
 ghost use Rattle.cs_fakes.specs.MemFolders.{folder_view, bytes_view, left_view, own_view, mem_bytes, answered, no_plan, plan_of, plan_after, file_met};
+ghost use Rattle.cs_tree.specs.ByteList.{AreBytes};
 
-use crate::folder_types::{MemFile, MemFolder, MemIndex, MemLeft, MemOpened, MemVisit};
+use crate::types::{MemFile, MemFolder, MemIndex, MemLeft, MemOpened, MemVisit};
 use cs_output::Sent;
 use cs_storage::{IndexFolder, StorageFault};
+use cs_tree::{IoFault, Store};
 use std::alloc::{AllocError, Global};
 
 impl MemFolder {
@@ -296,6 +298,29 @@ impl IndexFolder for MemFolder {
     }
 }
 
+impl Store for MemIndex {
+    ghost model = { λ s. Some s.bytes.items };
+
+    ghost size = { λ s. length s.bytes.items };
+
+    ghost failed = { λ _. 0 };
+
+    fn len(&self) -> usize {
+        count(&self.bytes)
+    }
+
+    fn read_at(&mut self, buf: &mut [u8], at: usize) -> Result<usize, IoFault> {
+        let rest = &self.bytes[at.min(self.bytes.len())..];
+        let n = buf.len().min(rest.len());
+        buf[..n].copy_from_slice(&rest[..n]);
+        Ok(n)
+    }
+
+    fn failures(&self) -> u64 {
+        0
+    }
+}
+
 /// What a crash leaves of a file that is on the disk, or of none.
 fn left_of_file(alloc: Global, file: &Option<Vec<u8>>) -> Result<MemLeft, AllocError>
     ensures { IfOk result (λ left. left_view left ≡ left_whole (bytes_view file.now)) }
@@ -322,4 +347,11 @@ fn is_same(one: &Option<Vec<u8>>, other: &Option<Vec<u8>>) -> bool
     ensures { IsTrue result ↔ (bytes_view one.now ≡ bytes_view other.now) }
 {
     one == other
+}
+
+fn count(bytes: &[u8]) -> usize
+    ensures count { result ≡ length bytes.now }
+    ensures bytes { AreBytes bytes.now }
+{
+    bytes.len()
 }

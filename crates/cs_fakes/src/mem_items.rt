@@ -1,17 +1,19 @@
-// The items of a tree in memory.
-ghost use Rattle.std.specs.Prelude.{◌≡◌, ◌≢◌, ◌<◌, ◌∷◌, [], string_bytes, true, false, ◌&&◌, ◌||◌, not, ℕ, Option, Some, None, Ok, Err, MatchOption, MatchResult, OnOk, OnErr, map, filter, vec_len, vec_capacity, IfOk};
-ghost use Rattle.cs_tree.specs.TreeAnswers.{opening_of};
-ghost use Rattle.cs_tree.specs.Folders.{is_element, are_elements};
+// The items of a tree in memory, the names in a folder, and the parts of paths.
+ghost use Rattle.std.specs.Prelude.{◌≡◌, ◌≢◌, ◌<◌, ◌∷◌, [], string_bytes, true, false, ◌&&◌, ◌||◌, not, ℕ, Option, Some, None, Ok, Err, MatchOption, MatchResult, OnOk, OnErr, map, filter, vec_len, vec_capacity, IfOk, ◌++◌, length, nat_eq, if◌then◌else◌, bytes_eq, List};
 ghost use Rattle.std.specs.List.{list_any};
 ghost use Rattle.std.specs.FinMap as map';
+ghost use Rattle.cs_tree.specs.TreeAnswers.{opening_of};
+ghost use Rattle.cs_tree.specs.Folders.{is_element, are_elements, stem_of, child, last_element};
 ghost use Rattle.cs_tree.specs.Snapshot.{item_at};
-ghost use Rattle.cs_fakes.specs.Changes.{is_folder as is_folder', has_entries as has_entries', without_listed_names, with_name, is_removed_with as is_removed_with'};
+ghost use Rattle.cs_fakes.specs.Changes.{is_folder as is_folder', has_entries as has_entries', without_listed_names, with_name, is_removed_with as is_removed_with', names_with, names_left, parent_of};
 ghost use Rattle.cs_tree.specs.Trees.{Answers, listing_value, listing_names, kind_of, listing_of};
-ghost use Rattle.cs_fakes.specs.MemTrees.{item_of, item_put, pair_of, snapshot_of, left_at, left_of};
+ghost use Rattle.cs_fakes.specs.MemTrees.{item_of, item_put, pair_of, snapshot_of, left_at, left_of, mem_names};
 ghost use Rattle.cs_fakes.specs.MemItems.{entry_index, unlisted_pair, IsOpening};
+ghost use Rattle.cs_tree.specs.Cover.{is_absolute};
+ghost use Rattle.cs_tree.specs.Clean.{is_clean as is_clean'};
 
 use crate::mem_tree::Item;
-use crate::tree_types::{MemEntry, MemItem, Names};
+use crate::types::{MemEntry, MemItem, Names};
 use cs_tree::{Kind, Listing, TreeFault, covers};
 use std::alloc::{AllocError, Global};
 
@@ -69,22 +71,66 @@ impl MemEntry {
     }
 }
 
-/// The index of the path among the items.
-fn find_entry(items: &[MemEntry], path: &str) -> Option<usize>
-    ensures { result ≡ entry_index items.now path.now }
-{
-    items.iter().position(|entry| entry.path.as_str() == path)
-}
+impl Names {
+    pub(crate) fn new(alloc: Global) -> Names
+        ensures { mem_names result ≡ [] }
+    {
+        Names {
+            list: Vec::new(alloc),
+        }
+    }
 
-/// The item at a path.
-fn find_item<'a>(items: &'a [MemEntry], path: &str) -> Option<&'a MemItem>
-    ensures { MatchOption result
-        (map'.get (snapshot_of items.now) path.now ≡ None)
-        (λ item. map'.get (snapshot_of items.now) path.now ≡ Some (item_of item.now)) }
-{
-    match find_entry(items, path) {
-        Some(at) => Some(&items[at].item),
-        None => None,
+    pub(crate) fn is_empty(&self) -> bool
+        ensures { result ≡ nat_eq (length (mem_names self.now)) 0 }
+    {
+        self.list.is_empty()
+    }
+
+    fn lists(&self, name: &str) -> bool
+        ensures { result
+            ≡ list_any (λ listed. bytes_eq (string_bytes listed) name.now) self.now.list.items }
+    {
+        self.list.iter().any(|listed| listed.as_str() == name)
+    }
+
+    /// Adds the name, unless the folder has it.
+    pub(crate) fn add(&mut self, alloc: Global, name: &str) -> Result<(), AllocError>
+        requires { is_element name.now ≡ true }
+        ensures ok { OnOk result (mem_names self.new
+            ≡ names_with name.now (mem_names self.old)) }
+        ensures err { OnErr result (mem_names self.new ≡ mem_names self.old) }
+    {
+        if self.lists(name) {
+            return Ok(());
+        }
+        let name = String::from_str(alloc, name)?;
+        self.list.push(name)?;
+        Ok(())
+    }
+
+    /// Removes each name whose path the path covers.
+    pub(crate) fn remove(&mut self, folder: &str, path: &str)
+        requires { is_absolute folder.now ≡ true }
+        ensures { mem_names self.new
+            ≡ names_left path.now folder.now (mem_names self.old) }
+    {
+        if covers(path, folder) {
+            self.list.clear();
+        } else {
+            self.list
+                .retain(|name| !is_child(path, folder, name.as_str()));
+        }
+    }
+
+    /// A copy of the names, in their order.
+    pub(crate) fn copy(&self, alloc: Global) -> Result<Vec<String>, AllocError>
+        ensures { IfOk result (λ names. map string_bytes names.items ≡ mem_names self.now) }
+    {
+        let mut names = Vec::new(alloc);
+        for name in &self.list {
+            names.push(name.clone()?)?;
+        }
+        Ok(names)
     }
 }
 
@@ -187,13 +233,6 @@ pub(crate) fn put_entry(items: &mut Vec<MemEntry>, entry: MemEntry)
     }
 }
 
-/// Whether removing the first path removes the second: it is covered, and not the root.
-fn is_removed_with(path: &str, at: &str) -> bool
-    ensures { result ≡ is_removed_with' path.now at.now }
-{
-    covers(path, at) && at != "/"
-}
-
 /// Whether removing the path removes some item.
 pub(crate) fn removes_any(items: &[MemEntry], path: &str) -> bool
     ensures { result
@@ -221,4 +260,70 @@ pub(crate) fn unlist_all(items: &mut Vec<MemEntry>, path: &str)
     for i in 0..items.len() {
         items[i].unlist(path);
     }
+}
+
+/// The parent folder of a path, and its last element.
+pub(crate) fn split_name(path: &str) -> Option<(&str, &str)>
+    ensures { MatchOption result
+        (is_clean' path.now ≡ false)
+        (λ parts. (parts.0.now ≡ parent_of path.now) × (parts.1.now ≡ last_element path.now)) }
+{
+    let Some((prefix, name)) = path.rsplit_once('/') else {
+        return None;
+    };
+    if prefix.is_empty() {
+        return Some(("/", name));
+    }
+    Some((prefix, name))
+}
+
+/// The index of the path among the items.
+fn find_entry(items: &[MemEntry], path: &str) -> Option<usize>
+    ensures { result ≡ entry_index items.now path.now }
+{
+    items.iter().position(|entry| entry.path.as_str() == path)
+}
+
+/// The item at a path.
+fn find_item<'a>(items: &'a [MemEntry], path: &str) -> Option<&'a MemItem>
+    ensures { MatchOption result
+        (map'.get (snapshot_of items.now) path.now ≡ None)
+        (λ item. map'.get (snapshot_of items.now) path.now ≡ Some (item_of item.now)) }
+{
+    match find_entry(items, path) {
+        Some(at) => Some(&items[at].item),
+        None => None,
+    }
+}
+
+/// Whether removing the first path removes the second: it is covered, and not the root.
+fn is_removed_with(path: &str, at: &str) -> bool
+    ensures { result ≡ is_removed_with' path.now at.now }
+{
+    covers(path, at) && at != "/"
+}
+
+/// Whether the path is that of the folder's child with the name.
+fn is_child(path: &str, folder: &str, name: &str) -> bool
+    ensures { result ≡ bytes_eq (child folder.now name.now) path.now }
+{
+    let Some(rest) = after_folder(path, folder) else {
+        return false;
+    };
+    match rest.split_first() {
+        Some((first, last)) => *first == b'/' && last == name.as_bytes(),
+        None => false,
+    }
+}
+
+/// The rest of the path after the folder's path. The root counts as the empty text here.
+fn after_folder<'a>(path: &'a str, folder: &str) -> Option<&'a [u8]>
+    ensures { MatchOption result
+        ((rest : List ℕ) → path.now ≢ stem_of folder.now ++ rest)
+        (λ rest. path.now ≡ stem_of folder.now ++ rest.now) }
+{
+    if folder == "/" {
+        return Some(path.as_bytes());
+    }
+    path.as_bytes().strip_prefix(folder.as_bytes())
 }

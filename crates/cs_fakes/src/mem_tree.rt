@@ -18,10 +18,9 @@ ghost use Rattle.cs_fakes.specs.declared.mem_tree.PutFault.TheVariants as put;
 
 use crate::mem_items::{
     drop_below, folder_at, kind_at, list_in, listing_at, opening_at, put_entry, removes_any,
-    unlist_all,
+    split_name, unlist_all,
 };
-use crate::paths::split_name;
-use crate::tree_types::{MemEntry, MemItem, MemTree, Names};
+use crate::types::{MemEntry, MemItem, MemTree, Names};
 use cs_tree::{
     Kind, Listing, Look, MemSource, Seen, Source, Tree, TreeFault, counted_answer, has_nul,
     is_clean,

@@ -3,7 +3,7 @@ use Rattle.std.proofs.Common.{◌≡◌, ℕ, List, [], ◌∷◌, refl, subst, 
 use Rattle.cs_trigram.specs.Trigram.{Ascends as Rises}
 use Rattle.cs_trigram.specs.TrigramSets.{IsTrigramSet}
 use Rattle.cs_history.proofs.Common.{trigram_sequence, tri, Ascends, first_broken, too_many, skip, text_trigrams}
-use Rattle.cs_trigram.specs.declared.limits.Limits.{Limits}
+use Rattle.cs_trigram.specs.declared.scan.Limits.{Limits}
 use Rattle.cs_trigram.specs.declared.scan.Reason.{Reason}
 use Rattle.cs_trigram.proofs.SetLemmas.{ascends_set}
 use Rattle.cs_trigram.proofs.LawLemmas.{none_skipped}

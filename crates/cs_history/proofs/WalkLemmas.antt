@@ -5,7 +5,7 @@ use Rattle.cs_history.proofs.Common.{child, lists, is_element, ListsElements, Is
 use Rattle.std.specs.FinMap as map
 use Rattle.cs_tree.specs.PathSet as set
 use Rattle.cs_tree.proofs.CoverLemmas.{covers_says}
-use Rattle.cs_trigram.specs.declared.limits.Limits.{Limits}
+use Rattle.cs_trigram.specs.declared.scan.Limits.{Limits}
 use Rattle.cs_history.proofs.PathElementLemmas.{IsPart, part_appended, part_empty, text_from_parts}
 use Rattle.cs_history.proofs.TextLemmas.{text_set}
 use Rattle.std.proofs.lemmas.Bool.{true_from_ne_false}

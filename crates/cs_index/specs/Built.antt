@@ -12,6 +12,7 @@ use Rattle.std.specs.FinMap as map'
 use Rattle.cs_tree.specs.PathSet as set'
 use Rattle.cs_tree.specs.Cover.{covers}
 use Rattle.cs_index.specs.Encoding.{Entry, Files, names_of, IsString}
+use Rattle.cs_index.specs.MaxNames.{max_names}
 
 -- The paths, and the names that were added, each with its trigrams.
 pub record Built : Type 0 where
@@ -38,10 +39,6 @@ is_before path other = is_lt (bytes_cmp path other) && not (covers path other)
 abbrev pub are_reduced : List (List ℕ) → Bool
 are_reduced [] = true
 are_reduced (path ∷ paths) = list_all (is_before path) paths && are_reduced paths
-
--- the maximum number of names of a builder
-abbrev pub max_names : ℕ
-max_names = 1073741824
 
 -- the name is valid, but not greater than the last one
 abbrev pub IsOutOfOrder : Built → List ℕ → Type 0

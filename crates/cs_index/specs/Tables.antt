@@ -4,7 +4,7 @@ use Rattle.std.specs.Prelude.{◌≡◌, ◌<◌, ◌-◌, true, ℕ, List, leng
 use Rattle.std.specs.List.{AllByRecursion, list_all}
 use Rattle.cs_index.specs.declared.fault.IndexFault.{IndexFault}
 use Rattle.cs_index.specs.declared.reading.section_offsets.SectionOffsets.{SectionOffsets}
-use Rattle.cs_index.specs.Built.{max_names}
+use Rattle.cs_index.specs.MaxNames.{max_names}
 use Rattle.cs_index.specs.Encoding.{IsString, ListEntry}
 use Rattle.cs_index.specs.OpenedParts.{Parts}
 use Rattle.cs_index.specs.Opening.{entries_in, is_entry, opening, rises, texts_of}

@@ -3,7 +3,7 @@
 use Rattle.std.specs.Prelude.{◌≡◌, ◌<◌, true, length}
 use Rattle.cs_index.specs.Encoding.{IsString}
 use Rattle.std.specs.List.{AllByRecursion, list_all}
-use Rattle.cs_index.specs.Built.{max_names}
+use Rattle.cs_index.specs.MaxNames.{max_names}
 use Rattle.cs_index.specs.Opening.{is_entry, rises}
 use Rattle.cs_index.specs.OpenedParts.{Parts}
 

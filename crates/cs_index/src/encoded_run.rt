@@ -1,13 +1,16 @@
-// Encoded runs: ids that are copied from one posting list to another as encoded varints.
-ghost use Rattle.std.specs.Prelude.{◌≡◌, ◌<◌, ◌≤◌, ◌+◌, ◌++◌, [], true, length, sum, take};
+// Encoded runs: ids that are copied from one posting list to another as encoded varints. Deltas of
+// one or two bytes each are decoded in sixteen bytes at once.
+ghost use Rattle.std.specs.Prelude.{◌≡◌, ◌<◌, ◌≤◌, ◌+◌, ◌++◌, [], true, length, sum, take, false, map, MatchOption};
 ghost use Rattle.std.specs.List.{AllByRecursion};
+ghost use Rattle.std.specs.Simd.Lanes.{mask_l, sum_l};
 ghost use Rattle.cs_index.specs.Encoding.{varint, stream_of};
 ghost use Rattle.cs_index.specs.AscendingIds.{max_ids, next_after, AscendWithin};
 ghost use Rattle.cs_index.specs.IdStream.{ids_by_deltas, ids_in, IsMarked};
 ghost use Rattle.cs_index.specs.Prefixes.{IsPrefix};
+ghost use Rattle.cs_index.specs.ShortDeltas.{are_short, is_first, second_bytes};
 
-use crate::short_deltas::sixteen;
 use std::marker::Model;
+use std::simd::prelude::*;
 
 /// The most ids that are taken one by one before sixteen bytes are tried again.
 const FEW: u32 = 8;
@@ -113,6 +116,59 @@ pub(crate) fn extent(bytes: &[u8], limit: u32, room: u32) -> Prefix
     Prefix { len, count, next }
 }
 
+/// `extent`, which sets the flag of each id in a row, where the id 0 has the flag `at`.
+#[inline(always)]
+pub(crate) fn marked_extent(
+    bytes: &[u8],
+    limit: u32,
+    room: u32,
+    row: &mut [bool],
+    at: usize,
+) -> Prefix
+    requires bound { room ≤ max_ids }
+    requires within { at + room ≤ length row.old }
+    ensures prefix { IsPrefix bytes.now limit room result }
+    ensures marks { IsMarked at (ids_in (take result.len bytes.now) result.count) row.old row.new }
+{
+    let mut len = 0;
+    let mut count = 0;
+    let mut next = 0;
+    'ids: while count < limit {
+        let first = at + next as usize;
+        let more = marked_part(&bytes[len..], limit - count, room - next, row, first);
+        if more.count == 0 {
+            return Prefix { len, count, next };
+        }
+        len += more.len;
+        count += more.count;
+        next += more.next;
+    }
+    Prefix { len, count, next }
+}
+
+/// The whole deltas of the first sixteen bytes, if each is canonical and has one or two bytes.
+#[inline(always)]
+pub(crate) fn sixteen(bytes: &[u8]) -> Option<Prefix>
+    requires { 16 ≤ length bytes.now }
+    ensures { MatchOption result (are_short 0 (take 16 bytes.now) ≡ false)
+        (λ prefix. IsPrefix bytes.now 16 max_ids prefix × (15 ≤ prefix.len)) }
+{
+    let v = u8x16::from_slice(bytes);
+    let firsts = first_bits(v);
+    if !have_short_deltas(v, firsts) {
+        return None;
+    }
+    // A delta of two bytes counts its first byte less 128, and 128 times its second one. The first
+    // byte of a delta that is begun only is not counted.
+    let two = firsts.count_ones();
+    let begun = bytes[15].saturating_sub(128) as u32;
+    Some(Prefix {
+        len: 16 - (firsts >> 15) as usize,
+        count: 16 - two,
+        next: sum_of(v) + 127 * sum_of(seconds(v)) - 128 * two - begun,
+    })
+}
+
 /// One step of `extent`: sixteen bytes at a time, or else a few ids one by one.
 #[inline(always)]
 fn part(bytes: &[u8], limit: u32, room: u32) -> Prefix
@@ -166,36 +222,6 @@ fn one_by_one(bytes: &[u8], limit: u32, room: u32) -> Prefix
         len += size;
         count += 1;
         next += delta;
-    }
-    Prefix { len, count, next }
-}
-
-/// `extent`, which sets the flag of each id in a row, where the id 0 has the flag `at`.
-#[inline(always)]
-pub(crate) fn marked_extent(
-    bytes: &[u8],
-    limit: u32,
-    room: u32,
-    row: &mut [bool],
-    at: usize,
-) -> Prefix
-    requires bound { room ≤ max_ids }
-    requires within { at + room ≤ length row.old }
-    ensures prefix { IsPrefix bytes.now limit room result }
-    ensures marks { IsMarked at (ids_in (take result.len bytes.now) result.count) row.old row.new }
-{
-    let mut len = 0;
-    let mut count = 0;
-    let mut next = 0;
-    'ids: while count < limit {
-        let first = at + next as usize;
-        let more = marked_part(&bytes[len..], limit - count, room - next, row, first);
-        if more.count == 0 {
-            return Prefix { len, count, next };
-        }
-        len += more.len;
-        count += more.count;
-        next += more.next;
     }
     Prefix { len, count, next }
 }
@@ -279,4 +305,44 @@ fn short_delta(bytes: &[u8]) -> (u32, usize)
         }
         _ => (0, 0),
     }
+}
+
+/// A bit for each byte that is not the last one of its delta.
+#[inline(always)]
+fn first_bits(v: u8x16) -> u64
+    ensures { result ≡ mask_l (map is_first v) }
+{
+    v.simd_ge(u8x16::splat(128)).to_bitmask()
+}
+
+/// Whether each delta is canonical and has one or two bytes.
+#[inline(always)]
+fn have_short_deltas(v: u8x16, firsts: u64) -> bool
+    requires { firsts ≡ mask_l (map is_first v) }
+    ensures { result ≡ are_short 0 v }
+{
+    firsts & (firsts << 1) == 0 && v.simd_eq(u8x16::splat(0)).to_bitmask() == 0
+}
+
+/// The second bytes of deltas, and 0 in the other lanes.
+#[inline(always)]
+fn seconds(v: u8x16) -> u8x16
+    ensures { result ≡ second_bytes 0 v }
+{
+    let zeros = u8x16::splat(0);
+    let firsts = v
+        .simd_ge(u8x16::splat(128))
+        .select(u8x16::splat(255), zeros);
+    v & firsts.shuffle(
+        zeros,
+        [16, 0, 1, 2, 3, 4, 5, 6, 7, 8, 9, 10, 11, 12, 13, 14],
+    )
+}
+
+/// The sum of the bytes.
+#[inline(always)]
+fn sum_of(v: u8x16) -> u32
+    ensures { result ≡ sum_l v }
+{
+    v.cast::<u16>().strict_reduce_sum() as u32
 }

@@ -9,9 +9,6 @@
 //! toolchain allows data in a ghost field only where a type says what memory it owns, here none.
 #![tactic(auto)]
 
-mod memory;
 mod output;
-mod sent;
 
-pub use output::Output;
-pub use sent::Sent;
+pub use output::{Output, Sent};

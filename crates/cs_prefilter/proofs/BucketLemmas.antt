@@ -4,8 +4,8 @@ use Rattle.std.specs.Int.{bit_at}
 use Rattle.std.proofs.lemmas.Bool.{cases_eq, eqb-true}
 use Rattle.std.proofs.lemmas.Nat.Bits.{bit_at_set_same}
 use Rattle.std.proofs.lemmas.List.{get_or-set_same, get_or-set_other}
-use Rattle.cs_prefilter.specs.declared.masks.NibbleMasks.{NibbleMasks}
-use Rattle.cs_prefilter.specs.declared.masks.TrigramMasks.{TrigramMasks}
+use Rattle.cs_prefilter.specs.declared.probe.NibbleMasks.{NibbleMasks}
+use Rattle.cs_prefilter.specs.declared.probe.TrigramMasks.{TrigramMasks}
 use Rattle.cs_prefilter.specs.declared.word.Word.{Word}
 use Rattle.cs_prefilter.specs.WordAt.{WordAt}
 use Rattle.cs_syntax.specs.Matching.{member}

@@ -1,9 +1,9 @@
 -- Worked examples: the buckets of bytes and words, tests of a letter, and eight bytes.
 use Rattle.std.proofs.Common.{◌≡◌, ℕ, ◌-◌, List, [], ◌∷◌, ◌++◌, replicate, get_or, inl, inr, refl, ap, arith}
 use Rattle.std.proofs.lemmas.Bool.{cases_lt}
-use Rattle.cs_prefilter.specs.declared.byte_test.ByteTest.{ByteTest}
-use Rattle.cs_prefilter.specs.declared.masks.NibbleMasks.{NibbleMasks}
-use Rattle.cs_prefilter.specs.declared.masks.TrigramMasks.{TrigramMasks}
+use Rattle.cs_prefilter.specs.declared.probe.ByteTest.{ByteTest}
+use Rattle.cs_prefilter.specs.declared.probe.NibbleMasks.{NibbleMasks}
+use Rattle.cs_prefilter.specs.declared.probe.TrigramMasks.{TrigramMasks}
 use Rattle.cs_prefilter.specs.Buckets.{buckets, buckets_of}
 use Rattle.std.specs.Prelude.{true, false, codes}
 use Rattle.cs_prefilter.specs.Pairs.{PassesTest}

@@ -4,8 +4,8 @@ use Rattle.std.specs.Int.Bits.{and_zero_l}
 use Rattle.std.proofs.lemmas.Bool.{eqb-true}
 use Rattle.cs_syntax.specs.Matching.{member}
 use Rattle.cs_prefilter.specs.declared.word.Word.{Word}
-use Rattle.cs_prefilter.specs.declared.byte_test.ByteTest.{ByteTest}
-use Rattle.cs_prefilter.specs.declared.pairs.Pair.{Pair}
+use Rattle.cs_prefilter.specs.declared.probe.ByteTest.{ByteTest}
+use Rattle.cs_prefilter.specs.declared.probe.Pair.{Pair}
 use Rattle.cs_prefilter.specs.WordAt.{WordAt}
 use Rattle.cs_prefilter.specs.ByteTest.{used_mask}
 use Rattle.cs_prefilter.specs.Lanes.{full_if_equal}

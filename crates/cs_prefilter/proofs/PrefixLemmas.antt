@@ -8,8 +8,8 @@ use Rattle.std.proofs.Math.Seq.{get_or-append_seam}
 use Rattle.std.specs.Simd.Lanes.{zip2}
 use Rattle.std.proofs.lemmas.Nat.{or_block, or_of_8}
 use Rattle.cs_prefilter.specs.declared.word.Word.{Word}
-use Rattle.cs_prefilter.specs.declared.prefix.Prefix.{Prefix}
-use Rattle.cs_prefilter.specs.declared.prefix.PrefixByte.{PrefixByte}
+use Rattle.cs_prefilter.specs.declared.comparing.Prefix.{Prefix}
+use Rattle.cs_prefilter.specs.declared.comparing.PrefixByte.{PrefixByte}
 use Rattle.cs_prefilter.specs.WordAt.{WordAt}
 use Rattle.cs_prefilter.specs.Prefixes.{eight, MayFollowAny, TestsByte, IsPrefixOf}
 

@@ -3,8 +3,8 @@ use Rattle.std.specs.Prelude.{◌≡◌, ℕ, ◌/◌, ◌%◌, ◌<◌, ◌≤�
 use Rattle.std.specs.Int.{bit_at}
 use Rattle.cs_syntax.specs.Matching.{member}
 use Rattle.cs_prefilter.specs.declared.word.Word.{Word}
-use Rattle.cs_prefilter.specs.declared.masks.NibbleMasks.{NibbleMasks}
-use Rattle.cs_prefilter.specs.declared.masks.TrigramMasks.{TrigramMasks}
+use Rattle.cs_prefilter.specs.declared.probe.NibbleMasks.{NibbleMasks}
+use Rattle.cs_prefilter.specs.declared.probe.TrigramMasks.{TrigramMasks}
 
 -- the buckets that both nibbles of the byte are in, one bit each
 unfoldable pub buckets : NibbleMasks → ℕ → ℕ

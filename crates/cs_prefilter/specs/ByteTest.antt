@@ -1,7 +1,7 @@
 -- Tests of a byte by one comparison.
 use Rattle.std.specs.Prelude.{◌≡◌, ◌↔◌, ℕ, ◌<◌, Bool, true, false, List, bit_or}
 use Rattle.cs_syntax.specs.Matching.{member}
-use Rattle.cs_prefilter.specs.declared.byte_test.ByteTest.{ByteTest}
+use Rattle.cs_prefilter.specs.declared.probe.ByteTest.{ByteTest}
 
 -- the members of the set, and no other bytes, pass the test
 abbrev pub IsTestOf : List Bool → ByteTest → Type 0

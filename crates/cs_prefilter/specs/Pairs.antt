@@ -1,8 +1,8 @@
 -- Pairs of bytes: two tests of bytes of a word, each at its offset in the word.
 use Rattle.std.specs.Prelude.{◌≡◌, ◌≢◌, ◌↔◌, ℕ, ◌+◌, ◌<◌, ◌⊎◌, Bool, true, false, List, length, slice_index, slice_index_or, bit_or}
 use Rattle.cs_prefilter.specs.declared.word.Word.{Word}
-use Rattle.cs_prefilter.specs.declared.byte_test.ByteTest.{ByteTest}
-use Rattle.cs_prefilter.specs.declared.pairs.Pair.{Pair}
+use Rattle.cs_prefilter.specs.declared.probe.ByteTest.{ByteTest}
+use Rattle.cs_prefilter.specs.declared.probe.Pair.{Pair}
 use Rattle.cs_prefilter.specs.ByteTest.{IsTestOf, used_mask}
 
 -- the test is one of the set at this offset of the word

@@ -4,8 +4,8 @@ use Rattle.std.specs.Int.{from_le_bytes}
 use Rattle.std.proofs.Common.{w64}
 use Rattle.cs_syntax.specs.Matching.{member}
 use Rattle.cs_prefilter.specs.declared.word.Word.{Word}
-use Rattle.cs_prefilter.specs.declared.prefix.Prefix.{Prefix}
-use Rattle.cs_prefilter.specs.declared.prefix.PrefixByte.{PrefixByte}
+use Rattle.cs_prefilter.specs.declared.comparing.Prefix.{Prefix}
+use Rattle.cs_prefilter.specs.declared.comparing.PrefixByte.{PrefixByte}
 use Rattle.cs_prefilter.specs.WordAt.{WordAt}
 
 -- the eight bytes from offset k on, the first as the lowest

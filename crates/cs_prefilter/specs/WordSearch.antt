@@ -1,8 +1,8 @@
 -- Searches for words.
 use Rattle.std.specs.Prelude.{ℕ, true, false}
 use Rattle.cs_prefilter.specs.declared.word.Word.{Word}
-use Rattle.cs_prefilter.specs.declared.search.WordSearch.{WordSearch}
-use Rattle.cs_prefilter.specs.declared.search.WordSearch.TheVariants.{Pair, FoldedPair, TwoPairs, TwoFoldedPairs, LowNibbles, AllNibbles}
+use Rattle.cs_prefilter.specs.declared.prefilter.WordSearch.{WordSearch}
+use Rattle.cs_prefilter.specs.declared.prefilter.WordSearch.TheVariants.{Pair, FoldedPair, TwoPairs, TwoFoldedPairs, LowNibbles, AllNibbles}
 use Rattle.cs_prefilter.specs.Pairs.{HasPair}
 use Rattle.cs_prefilter.specs.Buckets.{HasBucket}
 

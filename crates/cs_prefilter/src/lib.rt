@@ -36,24 +36,15 @@
 //! that it skips. These numbers affect only speed.
 #![tactic(auto)]
 
-mod buckets;
-mod byte_test;
 mod comparing;
-mod edges;
-mod lanes;
 mod listing;
-mod masks;
-mod pairs;
 mod prefilter;
-mod prefix;
 mod probe;
 mod rarity;
 mod required;
 mod runs;
 mod scan;
-mod search;
 mod steps;
-mod sufficient;
 mod word;
 mod words;
 

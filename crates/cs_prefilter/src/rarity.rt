@@ -1,6 +1,6 @@
 // Frequencies in source text, by which words are ranked. Only speed depends on them.
-use crate::byte_test::ByteTest;
-use crate::search::Kind;
+use crate::prefilter::Kind;
+use crate::probe::ByteTest;
 use cs_syntax::ByteSet;
 
 /// The largest number of sets of a word.

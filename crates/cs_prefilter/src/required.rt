@@ -8,9 +8,9 @@ ghost use Rattle.cs_prefilter.specs.WordAt.{IsLine};
 ghost use Rattle.cs_prefilter.specs.Words.{HasWordOf};
 ghost use Rattle.cs_prefilter.specs.Runs.{RunEnds, RunsFollow, IsFollowed};
 
+use crate::prefilter::Kind;
 use crate::rarity::MOST_SETS;
 use crate::runs::Runs;
-use crate::search::Kind;
 use crate::words::Words;
 use cs_syntax::Node;
 use std::alloc::{AllocError, Global};

@@ -5,8 +5,8 @@ ghost use Rattle.cs_syntax.specs.Matching.{member};
 ghost use Rattle.cs_prefilter.specs.OffsetWork.{most_words};
 ghost use Rattle.cs_prefilter.specs.WordAt.{HasWord};
 
+use crate::prefilter::Kind;
 use crate::rarity::{MOST_SETS, Part, rarest_part};
-use crate::search::Kind;
 use crate::word::Word;
 use cs_syntax::ByteSet;
 use std::alloc::{AllocError, Global};

@@ -39,7 +39,7 @@ use Rattle.cs_history.specs.MatchingFiles.{names_matching}
 use Rattle.cs_trigram.specs.QueryOf.{IsQueryOf}
 use Rattle.cs_search.specs.Csearch.{file_text, OpensWith, Keeps, csearch_printed, AreAccepted, OpensWhole, IsReady, RefusedInOrder}
 use Rattle.cs_search.specs.Plans.{IsPlan, RefusesPlan}
-use Rattle.cs_search.specs.declared.plan.Plan.{Plan}
+use Rattle.cs_search.specs.declared.stored.Plan.{Plan}
 use Rattle.cs_search.specs.declared.status.Status.{Status}
 use Rattle.cs_args.proofs.ArgSplitLemmas.{slice_get-prefix}
 use Rattle.cs_search.proofs.CgrepLemmas.{read_once, decides_program}

@@ -11,9 +11,9 @@ use Rattle.cs_match.specs.Automaton.{Automaton, after_steps}
 use Rattle.cs_match.specs.Work.{line_work, WorksWithin}
 use Rattle.cs_match.specs.LastPart.{last_part}
 use Rattle.cs_match.proofs.LinesLemmas.{last_part-append}
-use Rattle.cs_search.specs.declared.grep_fault.GrepFault.{GrepFault}
-use Rattle.cs_search.specs.declared.stop.Stop.{Stop}
-use Rattle.cs_search.specs.declared.stop.Stop.TheVariants.{Listed, End, Faulted}
+use Rattle.cs_search.specs.declared.status.GrepFault.{GrepFault}
+use Rattle.cs_search.specs.declared.status.Stop.{Stop}
+use Rattle.cs_search.specs.declared.status.Stop.TheVariants.{Listed, End, Faulted}
 use Rattle.cs_search.specs.Work.{TakesSteps, searched_work, input_work}
 use Rattle.cs_search.specs.SearchedWork.{HasSearched, SearchesLines, StepsWithin, IfEnded, ended_work, read_work}
 use Rattle.cs_search.proofs.WorkLemmas.{ended_more, searched_fewer, works_fewer, works_more, works_added}

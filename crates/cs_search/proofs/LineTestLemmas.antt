@@ -10,7 +10,7 @@ use Rattle.cs_tree.proofs.GrowsLemmas.{Grows-chain, Grows-same}
 use Rattle.cs_match.specs.Lines.{newline}
 use Rattle.cs_match.specs.Skipping.{NoneMatch}
 use Rattle.cs_args.specs.declared.jobs.Style.{Style}
-use Rattle.cs_search.specs.declared.tally.Tally.{Tally}
+use Rattle.cs_search.specs.declared.status.Tally.{Tally}
 use Rattle.cs_search.specs.Report.{MatchingLine, matches_from, match_line, any_match}
 use Rattle.cs_search.specs.TestedLines.{SameNumber, match_output, Tests, IsListed}
 use Rattle.cs_search.proofs.MatchListLemmas.{matches_from-append, matches_from-none, matches_from-one, any_match-append}

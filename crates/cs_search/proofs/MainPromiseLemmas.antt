@@ -38,7 +38,7 @@ use Rattle.cs_index.specs.Postings.{IsListFault}
 use Rattle.cs_index.specs.declared.fault.IndexFault.{IndexFault}
 use Rattle.cs_args.specs.Faults.{index_fault}
 use Rattle.cs_search.specs.Plans.{IsPlan, AreSelected, RefusesPlan}
-use Rattle.cs_search.specs.declared.plan.Plan.{Plan}
+use Rattle.cs_search.specs.declared.stored.Plan.{Plan}
 use Rattle.cs_search.specs.Csearch.{file_text, OpensWith, IsSound, DecidesSearch, csearch_printed, OpensWhole, IsReady}
 use Rattle.cs_search.proofs.SkippedFileLemmas.{search_alike}
 use Rattle.cs_search.proofs.CgrepLemmas.{decides_program}

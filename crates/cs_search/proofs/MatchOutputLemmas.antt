@@ -7,8 +7,8 @@ use Rattle.std.proofs.lemmas.Bool.{lt-ltb, cases_Bool}
 use Rattle.cs_tree.specs.Sinks.{Grows, SinkModel}
 use Rattle.cs_tree.proofs.GrowsLemmas.{Grows-chain}
 use Rattle.cs_args.specs.declared.jobs.Style.{Style}
-use Rattle.cs_search.specs.declared.tally.Tally.{Tally}
-use Rattle.cs_search.specs.declared.grep_fault.ReadFault.{ReadFault}
+use Rattle.cs_search.specs.declared.status.Tally.{Tally}
+use Rattle.cs_search.specs.declared.status.ReadFault.{ReadFault}
 use Rattle.cs_match.specs.Lines.{newline, lines, terminated_lines}
 use Rattle.cs_match.specs.LastPart.{last_part, last_line}
 use Rattle.cs_search.specs.Report.{MatchingLine, matches_from, any_match, match_line, name_line, count_line, matches_output, tested_lines, report}

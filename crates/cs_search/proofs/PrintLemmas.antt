@@ -10,7 +10,7 @@ use Rattle.cs_match.specs.Skipped.{AreLinesBetween}
 use Rattle.cs_match.specs.Skipping.{AreWholeLines, IsLineAfter, NoneMatch}
 use Rattle.cs_match.proofs.ListingLemmas.{IsFirstEnd, first_end, lines_append}
 use Rattle.cs_match.proofs.WholeLineLemmas.{whole_line, terminated_line}
-use Rattle.cs_search.specs.declared.tally.Tally.{Tally}
+use Rattle.cs_search.specs.declared.status.Tally.{Tally}
 use Rattle.cs_search.specs.TestedLines.{SameNumber, CountsLines, match_output, Tests, TestsPrefix}
 use Rattle.cs_search.proofs.BlockLemmas.{lines_between}
 use Rattle.cs_search.specs.Report.{MatchingLine, matches_from, any_match}

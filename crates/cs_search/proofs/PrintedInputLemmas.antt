@@ -21,9 +21,9 @@ use Rattle.cs_args.specs.declared.jobs.Style.{Style}
 use Rattle.cs_args.specs.declared.fault.FileFault.{FileFault}
 use Rattle.cs_args.specs.declared.fault.FileFault.TheVariants.{Failed, InputTooLong}
 use Rattle.cs_args.specs.declared.fault.ToolFault.{ToolFault}
-use Rattle.cs_search.specs.declared.grep_fault.ReadFault.{ReadFault}
-use Rattle.cs_search.specs.declared.grep_fault.ReadFault.TheVariants.{Read, TooLong}
-use Rattle.cs_search.specs.declared.grepped.Grepped.{Grepped}
+use Rattle.cs_search.specs.declared.status.ReadFault.{ReadFault}
+use Rattle.cs_search.specs.declared.status.ReadFault.TheVariants.{Read, TooLong}
+use Rattle.cs_search.specs.declared.status.Grepped.{Grepped}
 use Rattle.cs_search.specs.GrepReports.{Reports, ReportsPrefix}
 use Rattle.cs_search.specs.InputReport.{input_report}
 use Rattle.cs_tree.specs.TakesPrefix.{TakesPrefix, EndsAfter, MayEnd}

@@ -8,9 +8,9 @@ use Rattle.cs_tree.specs.StreamModels.{SourceModel}
 use Rattle.cs_tree.specs.Sinks.{Grows, SinkModel}
 use Rattle.cs_tree.specs.Transfers.{Consumes}
 use Rattle.cs_args.specs.declared.jobs.Style.{Style}
-use Rattle.cs_search.specs.declared.tally.Tally.{Tally}
-use Rattle.cs_search.specs.declared.grep_fault.ReadFault.{ReadFault}
-use Rattle.cs_search.specs.declared.stop.Stop.TheVariants.{End}
+use Rattle.cs_search.specs.declared.status.Tally.{Tally}
+use Rattle.cs_search.specs.declared.status.ReadFault.{ReadFault}
+use Rattle.cs_search.specs.declared.status.Stop.TheVariants.{End}
 use Rattle.cs_match.specs.Lines.{newline, lines, terminated_lines}
 use Rattle.cs_match.specs.LastPart.{last_part, last_line}
 use Rattle.cs_match.proofs.LinesLemmas.{lines-split, terminated_lines-append}

@@ -7,11 +7,11 @@ use Rattle.cs_tree.specs.StreamModels.{SourceModel, Ending, ends, fails}
 use Rattle.cs_tree.specs.Sinks.{SinkModel}
 use Rattle.cs_tree.proofs.GrowsLemmas.{take_on}
 use Rattle.cs_args.specs.declared.jobs.Style.{Style}
-use Rattle.cs_search.specs.declared.tally.Tally.{Tally}
-use Rattle.cs_search.specs.declared.grep_fault.ReadFault.TheVariants.{Read, TooLong}
-use Rattle.cs_search.specs.declared.grep_fault.ReadFault.{ReadFault}
-use Rattle.cs_search.specs.declared.stop.Stop.{Stop}
-use Rattle.cs_search.specs.declared.stop.Stop.TheVariants.{Listed, End, Faulted}
+use Rattle.cs_search.specs.declared.status.Tally.{Tally}
+use Rattle.cs_search.specs.declared.status.ReadFault.TheVariants.{Read, TooLong}
+use Rattle.cs_search.specs.declared.status.ReadFault.{ReadFault}
+use Rattle.cs_search.specs.declared.status.Stop.{Stop}
+use Rattle.cs_search.specs.declared.status.Stop.TheVariants.{Listed, End, Faulted}
 use Rattle.cs_match.specs.Lines.{terminated_lines}
 use Rattle.cs_match.specs.LastPart.{last_part}
 use Rattle.cs_search.specs.InputReport.{fault_within}

@@ -21,7 +21,7 @@ use Rattle.cs_args.specs.declared.fault.ToolFault.TheVariants.{Pattern, FilePatt
 use Rattle.cs_search.specs.declared.status.Status.{Status}
 use Rattle.cs_trigram.specs.QueryOf.{IsQueryOf}
 use Rattle.cs_search.specs.Csearch.{OpensWith, csearch_printed, IsSound, OpensWhole, IsReady, IsBad, RefusedInOrder}
-use Rattle.cs_search.specs.declared.plan.Plan.{Plan}
+use Rattle.cs_search.specs.declared.stored.Plan.{Plan}
 use Rattle.cs_search.specs.Plans.{IsPlan, AreSelected, RefusesPlan}
 use Rattle.cs_search.specs.InputReport.{max_searched}
 use Rattle.cs_search.specs.Printed.{Printed, SearchOutputs, PrintsAnswer, PrintsNothing, PrintsFaults, all_printed, file_printed, searched_by_cgrep}

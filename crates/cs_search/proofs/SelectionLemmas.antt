@@ -18,7 +18,7 @@ use Rattle.cs_index.specs.Answerable.{is_answerable}
 use Rattle.cs_index.specs.Candidates.{candidates_of, name_matches}
 use Rattle.cs_index.specs.NameReading.{HasName, IsName}
 use Rattle.cs_index.specs.declared.reading.name_reader.NameReader.{NameReader}
-use Rattle.cs_search.specs.declared.plan.Plan.{Plan}
+use Rattle.cs_search.specs.declared.stored.Plan.{Plan}
 use Rattle.cs_search.specs.IndexSearch.{names_at, AreKept, DecidesNames}
 use Rattle.cs_search.specs.Selections.{Selects}
 

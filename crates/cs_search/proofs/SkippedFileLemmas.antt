@@ -13,7 +13,7 @@ use Rattle.cs_tree.specs.Snapshot.{Snapshot, Item, file, item_at}
 use Rattle.cs_tree.specs.Reachability.{read_item}
 use Rattle.cs_trigram.specs.Trigram.{tri, has}
 use Rattle.cs_trigram.specs.Text.{rule_broken, first_broken, too_many, skip, text_trigrams, limits, valid_utf8_pair, last_byte, line_so_far}
-use Rattle.cs_trigram.specs.declared.limits.Limits.{Limits}
+use Rattle.cs_trigram.specs.declared.scan.Limits.{Limits}
 use Rattle.cs_trigram.specs.declared.scan.Reason.{Reason}
 use Rattle.cs_trigram.specs.declared.scan.Reason.TheVariants.{Nul, Utf8, TooLong as TooManyBytes, LongLine}
 use Rattle.cs_trigram.proofs.RuleLemmas.{option_or-none}
@@ -24,8 +24,8 @@ use Rattle.cs_index.specs.Encoding.{Entry}
 use Rattle.cs_history.specs.FileTrigrams.{ReadAsIndexed}
 use Rattle.cs_args.specs.declared.jobs.Tool.{Tool}
 use Rattle.cs_args.specs.declared.jobs.Style.{Style}
-use Rattle.cs_search.specs.declared.grep_fault.ReadFault.{ReadFault}
-use Rattle.cs_search.specs.declared.grep_fault.ReadFault.TheVariants.{TooLong}
+use Rattle.cs_search.specs.declared.status.ReadFault.{ReadFault}
+use Rattle.cs_search.specs.declared.status.ReadFault.TheVariants.{TooLong}
 use Rattle.cs_search.specs.InputReport.{max_searched}
 use Rattle.cs_match.specs.Lines.{newline, lines}
 use Rattle.cs_search.specs.Report.{Report, MatchingLine, matches_from, any_match, name_line, matches_output, report}

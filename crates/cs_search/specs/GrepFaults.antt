@@ -6,11 +6,11 @@ use Rattle.cs_tree.specs.declared.fault.IoFault.{IoFault}
 use Rattle.cs_tree.specs.declared.fault.IoFault.TheVariants as io
 use Rattle.cs_args.specs.declared.fault.ToolFault.{ToolFault}
 use Rattle.cs_args.specs.declared.fault.ToolFault.TheVariants as tool
-use Rattle.cs_search.specs.declared.grep_fault.ReadFault.{ReadFault}
-use Rattle.cs_search.specs.declared.grep_fault.ReadFault.TheVariants.{Read, TooLong}
-use Rattle.cs_search.specs.declared.grep_fault.GrepFault.{GrepFault}
-use Rattle.cs_search.specs.declared.grep_fault.GrepFault.TheVariants.{Write, Memory}
-use Rattle.cs_search.specs.declared.grepped.Grepped.{Grepped}
+use Rattle.cs_search.specs.declared.status.ReadFault.{ReadFault}
+use Rattle.cs_search.specs.declared.status.ReadFault.TheVariants.{Read, TooLong}
+use Rattle.cs_search.specs.declared.status.GrepFault.{GrepFault}
+use Rattle.cs_search.specs.declared.status.GrepFault.TheVariants.{Write, Memory}
+use Rattle.cs_search.specs.declared.status.Grepped.{Grepped}
 
 -- the error after a failed write
 abbrev pub write_fault : IoFault → GrepFault

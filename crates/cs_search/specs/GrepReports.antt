@@ -4,9 +4,9 @@ use Rattle.cs_syntax.specs.Matching.{Tree}
 use Rattle.cs_match.specs.Deciding.{Decides}
 use Rattle.cs_tree.specs.StreamModels.{SourceModel}
 use Rattle.cs_tree.specs.Sinks.{Grows, SinkModel}
-use Rattle.cs_search.specs.declared.grep_fault.GrepFault.{GrepFault}
-use Rattle.cs_search.specs.declared.grep_fault.ReadFault.{ReadFault}
-use Rattle.cs_search.specs.declared.grepped.Grepped.{Grepped}
+use Rattle.cs_search.specs.declared.status.GrepFault.{GrepFault}
+use Rattle.cs_search.specs.declared.status.ReadFault.{ReadFault}
+use Rattle.cs_search.specs.declared.status.Grepped.{Grepped}
 use Rattle.cs_tree.specs.TakesPrefix.{TakesPrefix}
 use Rattle.cs_search.specs.Report.{Report, report as report_of}
 use Rattle.cs_args.specs.declared.jobs.Style.{Style}

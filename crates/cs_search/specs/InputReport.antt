@@ -3,8 +3,8 @@
 use Rattle.std.specs.Prelude.{ℕ, nat_lt, if◌then◌else◌, Bool, List, length, take, Option, Some, None}
 use Rattle.cs_tree.specs.StreamModels.{SourceModel, ends, fails}
 use Rattle.cs_args.specs.declared.jobs.Style.{Style}
-use Rattle.cs_search.specs.declared.grep_fault.ReadFault.{ReadFault}
-use Rattle.cs_search.specs.declared.grep_fault.ReadFault.TheVariants.{Read, TooLong}
+use Rattle.cs_search.specs.declared.status.ReadFault.{ReadFault}
+use Rattle.cs_search.specs.declared.status.ReadFault.TheVariants.{Read, TooLong}
 use Rattle.cs_search.specs.Report.{Report, report}
 
 -- the number of bytes of an input that are searched: 2^30

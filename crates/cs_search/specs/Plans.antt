@@ -10,8 +10,8 @@ use Rattle.cs_index.specs.Candidates.{candidates_of}
 use Rattle.cs_index.specs.Answerable.{is_answerable}
 use Rattle.cs_args.specs.declared.jobs.SearchJob.{SearchJob}
 use Rattle.cs_args.specs.declared.fault.ToolFault.{ToolFault}
-use Rattle.cs_search.specs.declared.plan.Plan.{Plan}
-use Rattle.cs_search.specs.declared.plan.PlannedJob.{PlannedJob}
+use Rattle.cs_search.specs.declared.stored.Plan.{Plan}
+use Rattle.cs_search.specs.declared.stored.PlannedJob.{PlannedJob}
 use Rattle.cs_search.specs.declared.status.Status.{Status}
 use Rattle.cs_search.specs.Refusals.{has_write_failed}
 use Rattle.cs_search.specs.Csearch.{file_text, OpensWith, RefusedInOrder}

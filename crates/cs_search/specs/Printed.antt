@@ -15,7 +15,7 @@ use Rattle.cs_args.specs.declared.jobs.Style.{Style}
 use Rattle.cs_args.specs.declared.fault.FileFault.{FileFault}
 use Rattle.cs_args.specs.declared.fault.FileFault.TheVariants.{Failed, InputTooLong}
 use Rattle.cs_args.specs.declared.fault.ToolFault.{ToolFault}
-use Rattle.cs_search.specs.declared.grep_fault.ReadFault.TheVariants.{Read, TooLong}
+use Rattle.cs_search.specs.declared.status.ReadFault.TheVariants.{Read, TooLong}
 use Rattle.cs_search.specs.declared.status.Status.{Status}
 use Rattle.cs_search.specs.declared.status.Status.TheVariants.{Matched, NoMatch}
 use Rattle.cs_tree.specs.TakesPrefix.{TakesPrefix, MayEnd}

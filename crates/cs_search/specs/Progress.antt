@@ -4,12 +4,12 @@ use Rattle.cs_tree.specs.StreamModels.{SourceModel, ends, fails}
 use Rattle.cs_tree.specs.Sinks.{SinkModel}
 use Rattle.cs_tree.specs.Transfers.{Consumes, IsAt}
 use Rattle.cs_args.specs.declared.jobs.Style.{Style}
-use Rattle.cs_search.specs.declared.tally.Tally.{Tally}
-use Rattle.cs_search.specs.declared.grep_fault.ReadFault.{ReadFault}
-use Rattle.cs_search.specs.declared.grep_fault.ReadFault.TheVariants.{Read, TooLong}
-use Rattle.cs_search.specs.declared.grep_fault.GrepFault.{GrepFault}
-use Rattle.cs_search.specs.declared.stop.Stop.{Stop}
-use Rattle.cs_search.specs.declared.stop.Stop.TheVariants.{Listed, End, Faulted}
+use Rattle.cs_search.specs.declared.status.Tally.{Tally}
+use Rattle.cs_search.specs.declared.status.ReadFault.{ReadFault}
+use Rattle.cs_search.specs.declared.status.ReadFault.TheVariants.{Read, TooLong}
+use Rattle.cs_search.specs.declared.status.GrepFault.{GrepFault}
+use Rattle.cs_search.specs.declared.status.Stop.{Stop}
+use Rattle.cs_search.specs.declared.status.Stop.TheVariants.{Listed, End, Faulted}
 use Rattle.cs_syntax.specs.Matching.{Tree}
 use Rattle.cs_match.specs.Deciding.{Decides}
 use Rattle.cs_match.specs.Lines.{terminated_lines}

@@ -1,5 +1,5 @@
 -- What a search does to the tree and to both outputs, beside what it prints. docs/PROMISES.md, "What is printed".
-use Rattle.std.specs.Prelude.{ℕ, ◌≡◌, ◌+◌, false, Option, Result, OnOk}
+use Rattle.std.specs.Prelude.{ℕ, ◌≡◌, ◌+◌, Option, Result, OnOk}
 use Rattle.cs_tree.specs.ReadCounts.{ReadCounts}
 use Rattle.cs_tree.specs.Reads.{ReadsWithin}
 use Rattle.cs_tree.specs.Sinks.{SinkModel, CountsOne, HasFlushed}
@@ -14,25 +14,16 @@ abbrev pub SearchesTree : {T : Type 0} → (T → Option Snapshot) → (T → Op
 SearchesTree snapshot counts old new =
     (snapshot new ≡ snapshot old) × ReadsWithin (max_searched + 1) (counts old) (counts new)
 
--- No call of the tree fails, and none is made with a longer path than before.
-abbrev pub LeavesTree : {T : Type 0} → (T → ℕ) → (T → Option ℕ) → T → T → Type 0
-LeavesTree failed longest old new = (failed new ≡ failed old) × (longest new ≡ longest old)
-
--- The search has not begun: nothing is printed, and the tree is left alone.
+-- The search has not begun: nothing is printed, no call of the tree fails, and none is made with a longer path than before.
 abbrev pub HasNotBegun : {T O E : Type 0} → (O → Option SinkModel) → (E → Option SinkModel) → (T → ℕ) → (T → Option ℕ) →
     O → O → E → E → T → T → Type 0
 HasNotBegun out_model err_model failed longest out out' err err' tree tree' =
-    PrintsNothing (search_outputs out_model err_model out out' err err') × LeavesTree failed longest tree tree'
+    PrintsNothing (search_outputs out_model err_model out out' err err')
+    × (failed tree' ≡ failed tree) × (longest tree' ≡ longest tree)
 
-module _ {O E : Type 0} (out_model : O → Option SinkModel) (out_failed : O → ℕ) (err_model : E → Option SinkModel) (err_failed : E → ℕ)
-    (out out' : O) (err err' : E) where
-  -- Without an error both outputs are flushed. A failed write is counted by one of them.
-  abbrev pub EndsBoth : {A : Type 0} → Result A ToolFault → Type 0
-  EndsBoth answer =
-      OnOk answer (HasFlushed (out_model out') × HasFlushed (err_model err'))
-      × CountsOne (has_write_failed answer) (out_failed out) (out_failed out') (err_failed err) (err_failed err')
-
-  -- Nothing is printed, and no write fails.
-  abbrev pub LeavesOutputs : Type 0
-  LeavesOutputs = PrintsNothing (search_outputs out_model err_model out out' err err')
-      × CountsOne false (out_failed out) (out_failed out') (err_failed err) (err_failed err')
+-- Without an error both outputs are flushed. A failed write is counted by one of them.
+abbrev pub EndsBoth : {O E A : Type 0} → (O → Option SinkModel) → (O → ℕ) → (E → Option SinkModel) → (E → ℕ) →
+    O → O → E → E → Result A ToolFault → Type 0
+EndsBoth out_model out_failed err_model err_failed out out' err err' answer =
+    OnOk answer (HasFlushed (out_model out') × HasFlushed (err_model err'))
+    × CountsOne (has_write_failed answer) (out_failed out) (out_failed out') (err_failed err) (err_failed err')

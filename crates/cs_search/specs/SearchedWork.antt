@@ -6,9 +6,9 @@ use Rattle.cs_match.specs.LastPart.{last_part}
 use Rattle.cs_match.specs.Work.{WorksWithin}
 use Rattle.cs_tree.specs.StreamModels.{SourceModel}
 use Rattle.cs_tree.specs.Transfers.{Consumes}
-use Rattle.cs_search.specs.declared.grep_fault.GrepFault.{GrepFault}
-use Rattle.cs_search.specs.declared.stop.Stop.{Stop}
-use Rattle.cs_search.specs.declared.stop.Stop.TheVariants.{End}
+use Rattle.cs_search.specs.declared.status.GrepFault.{GrepFault}
+use Rattle.cs_search.specs.declared.status.Stop.{Stop}
+use Rattle.cs_search.specs.declared.status.Stop.TheVariants.{End}
 use Rattle.cs_search.specs.Work.{searched_work, TakesSteps}
 
 -- The matcher keeps its tree, and takes at most so many steps.

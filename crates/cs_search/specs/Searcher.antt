@@ -7,7 +7,7 @@ use Rattle.cs_tree.specs.Snapshot.{Snapshot}
 use Rattle.cs_tree.specs.Sinks.{SinkModel, Grows, CountsOne}
 use Rattle.cs_tree.specs.TakesPrefix.{TakesPrefix}
 use Rattle.cs_tree.specs.WritesBytes.{WritesBytes}
-use Rattle.cs_search.specs.declared.searcher.Searcher.{Searcher}
+use Rattle.cs_search.specs.declared.searching.Searcher.{Searcher}
 use Rattle.cs_args.specs.declared.jobs.Style.{Style}
 use Rattle.cs_args.specs.declared.jobs.Tool.{Tool}
 use Rattle.cs_search.specs.InputReport.{max_searched}

@@ -14,7 +14,7 @@ use Rattle.cs_index.specs.declared.fault.IndexFault.{IndexFault}
 use Rattle.cs_index.specs.declared.fault.IndexFault.TheVariants.{BadList}
 use Rattle.cs_index.specs.NameReading.{ReadsNames}
 use Rattle.cs_search.specs.IndexSearch.{AreKept, matcher_tree}
-use Rattle.cs_search.specs.declared.plan.Plan.{Plan}
+use Rattle.cs_search.specs.declared.stored.Plan.{Plan}
 use Rattle.cs_search.specs.declared.selection.Selection.{Selection}
 
 -- The names with these ids were read, and the selection has those that its filter keeps.

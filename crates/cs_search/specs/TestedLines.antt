@@ -4,8 +4,8 @@ use Rattle.std.specs.List.{flat_map}
 use Rattle.cs_tree.specs.FailureCount.{count_after}
 use Rattle.cs_tree.specs.Sinks.{Grows, SinkModel}
 use Rattle.cs_args.specs.declared.jobs.Style.{Style}
-use Rattle.cs_search.specs.declared.grep_fault.GrepFault.{GrepFault}
-use Rattle.cs_search.specs.declared.tally.Tally.{Tally}
+use Rattle.cs_search.specs.declared.status.GrepFault.{GrepFault}
+use Rattle.cs_search.specs.declared.status.Tally.{Tally}
 use Rattle.cs_search.specs.GrepFaults.{is_grep_failure}
 use Rattle.cs_syntax.specs.Matching.{Tree}
 use Rattle.cs_match.specs.Deciding.{Decides}

@@ -23,33 +23,21 @@
 #![tactic(auto)]
 
 mod buffer;
-mod csearching;
-mod grep_fault;
-mod grepped;
-mod input;
 pub mod laws;
 mod line_search;
 mod name_block;
-mod name_filter;
-mod plan;
 mod printer;
 mod report;
-mod searcher;
 mod searching;
 mod selection;
 mod status;
-mod stop;
 mod stored;
-mod tally;
 mod texts;
 
 pub use buffer::LineBuffer;
-pub use csearching::csearch;
-pub use grep_fault::{GrepFault, ReadFault};
-pub use grepped::Grepped;
 pub use printer::Printer;
 pub use report::{MAX_SEARCHED, grep, grep_within};
 pub use searching::cgrep;
-pub use status::Status;
-pub use stored::{SearchCall, csearch_stored};
+pub use status::{GrepFault, Grepped, ReadFault, Status};
+pub use stored::{SearchCall, csearch, csearch_stored};
 pub use texts::grep_text;

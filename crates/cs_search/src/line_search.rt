@@ -14,9 +14,8 @@ ghost use Rattle.cs_search.specs.TestedLines.{SameNumber, CountsBlock, IsUnliste
 ghost use Rattle.cs_search.specs.Work.{searched_work};
 ghost use Rattle.cs_search.specs.SearchedWork.{StepsWithin, ended_work};
 
-use crate::grep_fault::GrepFault;
 use crate::printer::Printer;
-use crate::tally::{Tally, newlines};
+use crate::status::{GrepFault, Tally, newlines};
 use cs_match::{Matcher, line_to};
 use cs_tree::Sink;
 use memchr::memrchr;

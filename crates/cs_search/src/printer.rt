@@ -7,7 +7,7 @@ ghost use Rattle.cs_search.specs.GrepFaults.{is_grep_failure};
 ghost use Rattle.cs_search.specs.Report.{count_line, match_line};
 ghost use Rattle.cs_search.specs.TestedLines.{WritesTo, match_output, total};
 
-use crate::grep_fault::GrepFault;
+use crate::status::GrepFault;
 use cs_args::Style;
 use cs_tree::{Sink, write_all};
 use itoa::Buffer;

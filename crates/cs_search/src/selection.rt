@@ -1,19 +1,20 @@
-// The names of an index in a store that a search selects.
-ghost use Rattle.std.specs.Prelude.{◌≡◌, ◌<◌, ◌++◌, ◌∷◌, [], ℕ, List, Some, All, IfOk, length};
-ghost use Rattle.std.specs.Option.{option_copied};
+// The names of an index in a store that a search selects: those of its candidates that `-f` keeps.
+ghost use Rattle.std.specs.Prelude.{◌≡◌, ◌<◌, ◌++◌, ◌∷◌, [], ℕ, List, Some, All, IfOk, length, Bool, IfErr, option_copied};
 ghost use Rattle.std.specs.Result.{IsOkAnd};
 ghost use Rattle.cs_tree.specs.KeepsStore.{KeepsStore};
 ghost use Rattle.cs_index.specs.OpenedParts.{Parts};
 ghost use Rattle.cs_index.specs.Stored.{StandsIn};
-ghost use Rattle.cs_search.specs.IndexSearch.{AreKept};
+ghost use Rattle.cs_search.specs.IndexSearch.{AreKept, DecidesNames, matcher_tree, IsFileProgram, FileRefused, file_pattern_fault};
 ghost use Rattle.cs_search.specs.Selections.{HasSelected, Selects, SelectsMore};
+ghost use Rattle.cs_search.specs.Csearch.{file_text};
 
 use crate::name_block::{push_matching, read_block};
-use crate::name_filter::NameFilter;
-use crate::plan::Plan;
-use crate::tally::newlines;
+use crate::status::newlines;
+use crate::stored::Plan;
+use cs_args::{SearchJob, ToolFault};
 use cs_index::{IndexFault, NameReader, StoredIndex};
-use cs_match::Program;
+use cs_match::{Matcher, Program};
+use cs_syntax::{PatternError, PatternFault, parse};
 use cs_tree::{IoFault, Store};
 use std::alloc::{AllocError, Global};
 
@@ -35,44 +36,6 @@ impl Drop for Selection<'_> {
             filter: _filter,
             names: _names,
         } = self;
-    }
-}
-
-/// The names of the plan's candidates that `-f` keeps, or `BadList`.
-pub(crate) fn selected_names<S: Store>(
-    alloc: Global,
-    plan: &Plan,
-    index: &StoredIndex,
-    store: &mut S,
-) -> Result<Result<Vec<String>, IndexFault>, IoFault>
-    ensures answers { (bytes : List ℕ) (parts : Parts) → S.model store.old ≡ Some bytes →
-        StandsIn bytes index.now parts → IfOk result (Selects plan.now parts) }
-    ensures store { KeepsStore S.model S.size S.failed store.old store.new result }
-{
-    match index.candidates(alloc, store, &plan.query)? {
-        Ok(ids) => kept_names(alloc, plan.file.as_ref(), index, &ids, store),
-        Err(fault) => Ok(Err(fault)),
-    }
-}
-
-/// The names with these ids that `-f` keeps, whose program is `file`.
-fn kept_names<S: Store>(
-    alloc: Global,
-    file: Option<&Program>,
-    index: &StoredIndex,
-    ids: &[u32],
-    store: &mut S,
-) -> Result<Result<Vec<String>, IndexFault>, IoFault>
-    ensures kept { (bytes : List ℕ) (parts : Parts) → S.model store.old ≡ Some bytes →
-        StandsIn bytes index.now parts → All (λ id. id < length parts.names) ids.now →
-        IfOk result (λ answer. IsOkAnd answer
-        (λ names. AreKept (option_copied file.entry) parts.names ids.now names.items)) }
-    ensures store { KeepsStore S.model S.size S.failed store.old store.new result }
-{
-    let mut selection = Selection::new(alloc, index, file)?;
-    match selection.read_all(alloc, store, ids)? {
-        Ok(()) => Ok(Ok(selection.into_names())),
-        Err(fault) => Ok(Err(fault)),
     }
 }
 
@@ -199,5 +162,104 @@ impl<'p> Selection<'p> {
             names,
         } = self;
         names
+    }
+}
+
+/// Decides which names `-f` keeps: all of them without `-f`.
+#[derive(Drop)]
+pub(crate) struct NameFilter<'p> {
+    pub(crate) matcher: Option<Matcher<'p>>,
+}
+
+impl<'p> NameFilter<'p> {
+    pub(crate) fn new(
+        alloc: Global,
+        program: Option<&'p Program>,
+    ) -> Result<NameFilter<'p>, AllocError>
+        ensures { IfOk result (λ filter. matcher_tree filter.matcher ≡ option_copied program.entry) }
+    {
+        let Some(program) = program else {
+            return Ok(NameFilter { matcher: None });
+        };
+        let matcher = Matcher::new(alloc, program)?;
+        Ok(NameFilter {
+            matcher: Some(matcher),
+        })
+    }
+
+    pub(crate) fn keeps(&mut self, name: &str) -> bool
+        ensures tested { (keeps : List ℕ → Bool) → DecidesNames keeps (matcher_tree self.old.matcher) →
+            result ≡ keeps name.now }
+        ensures same { matcher_tree self.new.matcher ≡ matcher_tree self.old.matcher }
+    {
+        match &mut self.matcher {
+            Some(matcher) => matcher.is_match(name.as_bytes()),
+            None => true,
+        }
+    }
+}
+
+/// The names of the plan's candidates that `-f` keeps, or `BadList`.
+pub(crate) fn selected_names<S: Store>(
+    alloc: Global,
+    plan: &Plan,
+    index: &StoredIndex,
+    store: &mut S,
+) -> Result<Result<Vec<String>, IndexFault>, IoFault>
+    ensures answers { (bytes : List ℕ) (parts : Parts) → S.model store.old ≡ Some bytes →
+        StandsIn bytes index.now parts → IfOk result (Selects plan.now parts) }
+    ensures store { KeepsStore S.model S.size S.failed store.old store.new result }
+{
+    match index.candidates(alloc, store, &plan.query)? {
+        Ok(ids) => kept_names(alloc, plan.file.as_ref(), index, &ids, store),
+        Err(fault) => Ok(Err(fault)),
+    }
+}
+
+/// Compiles the pattern of `-f`, if there is one.
+pub(crate) fn compile_file(alloc: Global, job: &SearchJob) -> Result<Option<Program>, ToolFault>
+    ensures compiled { IfOk result (IsFileProgram (file_text job.now)) }
+    ensures refused { IfErr result (FileRefused (file_text job.now)) }
+{
+    let Some(text) = &job.file else {
+        return Ok(None);
+    };
+    match parse(alloc, text.as_str(), false) {
+        Ok(pattern) => {
+            let program = Program::compile(alloc, &pattern)?;
+            Ok(Some(program))
+        }
+        Err(error) => Err(file_fault(error)),
+    }
+}
+
+/// The names with these ids that `-f` keeps, whose program is `file`.
+fn kept_names<S: Store>(
+    alloc: Global,
+    file: Option<&Program>,
+    index: &StoredIndex,
+    ids: &[u32],
+    store: &mut S,
+) -> Result<Result<Vec<String>, IndexFault>, IoFault>
+    ensures kept { (bytes : List ℕ) (parts : Parts) → S.model store.old ≡ Some bytes →
+        StandsIn bytes index.now parts → All (λ id. id < length parts.names) ids.now →
+        IfOk result (λ answer. IsOkAnd answer
+        (λ names. AreKept (option_copied file.entry) parts.names ids.now names.items)) }
+    ensures store { KeepsStore S.model S.size S.failed store.old store.new result }
+{
+    let mut selection = Selection::new(alloc, index, file)?;
+    match selection.read_all(alloc, store, ids)? {
+        Ok(()) => Ok(Ok(selection.into_names())),
+        Err(fault) => Ok(Err(fault)),
+    }
+}
+
+/// The error of the `-f` pattern; an allocation failure becomes `Memory`.
+fn file_fault(error: PatternError) -> ToolFault
+    ensures { result ≡ file_pattern_fault error }
+{
+    match error.fault {
+        PatternFault::Memory => ToolFault::Memory,
+        _ => ToolFault::FilePattern(error),
     }
 }

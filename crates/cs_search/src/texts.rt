@@ -6,12 +6,10 @@ ghost use Rattle.cs_search.specs.Work.{input_work};
 ghost use Rattle.cs_search.specs.GrepFaults.{is_grep_failure};
 ghost use Rattle.cs_search.specs.GrepReports.{text_report, IsReportedBy};
 
-use crate::grep_fault::GrepFault;
-use crate::grepped::Grepped;
 use crate::line_search::search_block;
 use crate::printer::Printer;
 use crate::report::end_search;
-use crate::tally::Tally;
+use crate::status::{GrepFault, Grepped, Tally};
 use cs_match::Matcher;
 use cs_tree::Sink;
 

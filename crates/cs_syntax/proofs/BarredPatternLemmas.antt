@@ -11,11 +11,11 @@ use Rattle.cs_syntax.specs.Tokens.{Token, PatternItem, atom, repeat, group_start
 use Rattle.cs_syntax.specs.ByteSet.{char_set}
 use Rattle.cs_syntax.specs.Numbers.{digit_value, is_digit, count_digits, number_of_digits}
 use Rattle.cs_syntax.specs.Classes.{class_escape, class_char, range_to, range_from, span, name_length, posix_class, after_colon, after_backslash, class_token, items_from, class_of, class}
-use Rattle.cs_syntax.specs.declared.item.ClassItem.{ClassItem}
-use Rattle.cs_syntax.specs.declared.item.ClassItem.TheVariants.{Range}
+use Rattle.cs_syntax.specs.declared.items.ClassItem.{ClassItem}
+use Rattle.cs_syntax.specs.declared.items.ClassItem.TheVariants.{Range}
 use Rattle.cs_syntax.specs.Repeats.{lazy, number, counts_to, counts_from, counts, is_bad, brace}
-use Rattle.cs_syntax.specs.declared.repeats.Number.{Number}
-use Rattle.cs_syntax.specs.declared.repeats.RepeatCounts.{RepeatCounts}
+use Rattle.cs_syntax.specs.declared.items.Number.{Number}
+use Rattle.cs_syntax.specs.declared.items.RepeatCounts.{RepeatCounts}
 use Rattle.cs_syntax.specs.Escapes.{char_by_number, octal_char, hex_char_in_braces, hex_char, control_char, escaped_char, is_unsupported_escape, escaped_class, escaped_tree, char_token, escape}
 use Rattle.cs_syntax.specs.declared.escapes.EscapedChar.{EscapedChar}
 use Rattle.cs_syntax.specs.Items.{next_token, token_by_kind}
@@ -28,10 +28,10 @@ use Rattle.cs_syntax.specs.Groups.{name, with_set, with_cleared, after_flags, cl
 use Rattle.cs_syntax.proofs.ClassLemmas.{with_class_item}
 use Rattle.cs_syntax.proofs.TokenLemmas.{either, FitsIn, starts_within, NumberWithin, digits_within, CountsWithin, counts_within, class_escape_fits, class_char_fits}
 use Rattle.cs_syntax.proofs.ParseLemmas.{IsItem, Follows, Goes, goes, alone, anywhere}
-use Rattle.cs_syntax.specs.declared.item.Flags.{Flags}
+use Rattle.cs_syntax.specs.declared.items.Flags.{Flags}
 use Rattle.cs_syntax.specs.declared.items.ByteKind.{ByteKind}
 use Rattle.cs_syntax.specs.declared.items.ByteKind.TheVariants.{Star, Plus, Question, Brace, Dot, Caret, Dollar, Bar, Open, Close, Class, Backslash, NonAscii, Literal}
-use Rattle.cs_syntax.specs.declared.item.Before.TheVariants.{Start}
+use Rattle.cs_syntax.specs.declared.items.Before.TheVariants.{Start}
 use Rattle.cs_syntax.specs.declared.fault.PatternFault.TheVariants.{NotInProfile, BadEscape, BadRepeat, BadGroup}
 
 -- ---- a bar after a text

@@ -13,7 +13,7 @@ use Rattle.cs_syntax.specs.Tokens.{Token, item, fault, and_then, atom, starts_wi
 use Rattle.cs_syntax.specs.ClassSets.{is_in_item, class_tree}
 use Rattle.cs_syntax.specs.Classes.{name_length, items_from, class_token, class, class_of}
 use Rattle.cs_syntax.specs.ClassState.{is_in_items, HaveItems}
-use Rattle.cs_syntax.specs.declared.item.ClassItem.{ClassItem}
+use Rattle.cs_syntax.specs.declared.items.ClassItem.{ClassItem}
 use Rattle.cs_syntax.specs.declared.fault.PatternFault.{PatternFault}
 
 pub name_length-next : (text rest : List ℕ) (b : ℕ) → text ≡ b ∷ rest → starts_with nat_eq text (codes ":]") ≡ false →

@@ -19,12 +19,12 @@ use Rattle.cs_syntax.specs.Items.{next_token, token_by_kind}
 use Rattle.cs_syntax.specs.ByteKinds.{byte_kind_of}
 use Rattle.cs_syntax.specs.Parsing.{Group, inside, with_atom, with_repeat, at_end, parse_suffix, answer, flags_at_start, ParsesAs, HasSyntaxError, syntax_error}
 use Rattle.cs_syntax.specs.Quoting.{counted_repeat}
-use Rattle.cs_syntax.specs.declared.repeats.Number.{Number}
-use Rattle.cs_syntax.specs.declared.repeats.RepeatCounts.{RepeatCounts}
-use Rattle.cs_syntax.specs.declared.item.Flags.{Flags}
+use Rattle.cs_syntax.specs.declared.items.Number.{Number}
+use Rattle.cs_syntax.specs.declared.items.RepeatCounts.{RepeatCounts}
+use Rattle.cs_syntax.specs.declared.items.Flags.{Flags}
 use Rattle.cs_syntax.specs.declared.items.ByteKind.TheVariants.{Literal}
-use Rattle.cs_syntax.specs.declared.item.Before.{Before}
-use Rattle.cs_syntax.specs.declared.item.Before.TheVariants.{Start, Operand, Repeated}
+use Rattle.cs_syntax.specs.declared.items.Before.{Before}
+use Rattle.cs_syntax.specs.declared.items.Before.TheVariants.{Start, Operand, Repeated}
 use Rattle.cs_syntax.specs.declared.fault.PatternFault.{PatternFault}
 use Rattle.cs_syntax.specs.declared.fault.PatternFault.TheVariants.{BadRepeat}
 

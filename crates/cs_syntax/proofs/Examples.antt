@@ -30,8 +30,8 @@ use Rattle.cs_syntax.specs.Quoting.{counted_repeat, quote_meta}
 use Rattle.cs_syntax.proofs.CharSetLemmas.{scalar_cases}
 use Rattle.cs_syntax.proofs.CharRangeLemmas.{tree_is}
 use Rattle.cs_syntax.specs.Weight.{max_weight, weight, weights}
-use Rattle.cs_syntax.specs.declared.item.NamedClass.TheVariants.{Ascii, Digit, Lower, Word}
-use Rattle.cs_syntax.specs.declared.item.ClassItem.TheVariants.{Range, Named}
+use Rattle.cs_syntax.specs.declared.items.NamedClass.TheVariants.{Ascii, Digit, Lower, Word}
+use Rattle.cs_syntax.specs.declared.items.ClassItem.TheVariants.{Range, Named}
 use Rattle.cs_syntax.specs.declared.fault.PatternFault.TheVariants.{NoOperand, StackedRepeat, BadRepeat, OpenGroup, StrayClose, BadGroup, OpenClass, BadRange, BadEscape, LoneBackslash, NotInProfile, TooDeep}
 
 -- texts with a syntax error

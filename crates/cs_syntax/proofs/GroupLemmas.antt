@@ -6,7 +6,7 @@ use Rattle.std.proofs.lemmas.List.{take_rest}
 use Rattle.cs_syntax.specs.NumberList.{has}
 use Rattle.cs_syntax.specs.Tokens.{PatternItem, Token, starts_with_byte}
 use Rattle.cs_syntax.specs.Groups.{with_set, after_flags, cleared_flags, set_flags}
-use Rattle.cs_syntax.specs.declared.item.Flags.{Flags}
+use Rattle.cs_syntax.specs.declared.items.Flags.{Flags}
 use Rattle.cs_syntax.proofs.ConditionalLemmas.{when_true, when_false}
 
 -- the token after n leading flags to set

@@ -3,7 +3,7 @@ use Rattle.std.proofs.Common.{◌≡◌, ℕ, ◌+◌, ◌<◌, ◌≤◌, Bool,
 use Rattle.std.specs.Prelude.{Option, Some, None, nat_eq}
 use Rattle.std.specs.Cmp.Lexicographic.{pointwise}
 use Rattle.std.proofs.lemmas.List.{drop_more, drop_all}
-use Rattle.cs_syntax.specs.declared.item.NamedClass.{NamedClass}
+use Rattle.cs_syntax.specs.declared.items.NamedClass.{NamedClass}
 
 abbrev pub Row : Type 0
 Row = Bor (List ℕ) × NamedClass

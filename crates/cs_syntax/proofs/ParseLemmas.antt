@@ -10,9 +10,9 @@ use Rattle.cs_syntax.specs.Parsing.{Level, SuffixParse, Group, ParseResult, tree
 use Rattle.cs_syntax.specs.BarredPatterns.{final_flags}
 use Rattle.cs_syntax.specs.Levels.{HasLevels}
 use Rattle.cs_syntax.proofs.TokenLemmas.{FitsIn, token_fits}
-use Rattle.cs_syntax.specs.declared.item.Flags.{Flags}
-use Rattle.cs_syntax.specs.declared.item.Before.{Before}
-use Rattle.cs_syntax.specs.declared.item.Before.TheVariants.{Start, Operand, Repeated}
+use Rattle.cs_syntax.specs.declared.items.Flags.{Flags}
+use Rattle.cs_syntax.specs.declared.items.Before.{Before}
+use Rattle.cs_syntax.specs.declared.items.Before.TheVariants.{Start, Operand, Repeated}
 use Rattle.cs_syntax.specs.declared.fault.PatternFault.{PatternFault}
 use Rattle.cs_syntax.specs.declared.fault.PatternFault.TheVariants.{NoOperand, StackedRepeat, StrayClose, TooDeep}
 

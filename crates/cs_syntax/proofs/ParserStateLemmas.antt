@@ -3,7 +3,7 @@ use Rattle.std.proofs.Common.{◌≡◌, ℕ, ◌≤◌, List, [], ◌∷◌, �
 use Rattle.std.proofs.lemmas.List.{reverse-append}
 use Rattle.cs_syntax.specs.Parsing.{parse_result, flags_at_start, parse_suffix}
 use Rattle.cs_syntax.specs.ParserState.{ParserState, at_start, parse_from_state, parse_at_end}
-use Rattle.cs_syntax.specs.declared.item.Before.TheVariants.{Start}
+use Rattle.cs_syntax.specs.declared.items.Before.TheVariants.{Start}
 use Rattle.cs_syntax.specs.declared.parser.GroupFrame as frame_type
 use Rattle.cs_syntax.proofs.PartialGroupLemmas.{whole_parse_start}
 

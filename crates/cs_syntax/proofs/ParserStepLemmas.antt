@@ -5,15 +5,15 @@ use Rattle.std.proofs.lemmas.List.{length-map}
 use Rattle.cs_syntax.specs.Matching.{Tree, Trees, rep, none, more}
 use Rattle.cs_syntax.specs.PartialGroups.{with_last, PartialGroup, whole_parse, with_last_repeated, tree_so_far}
 use Rattle.cs_syntax.specs.ItemViews.{item_view, token_view, IsTokenOf}
-use Rattle.cs_syntax.specs.declared.item.Item as items
-use Rattle.cs_syntax.specs.declared.item.ItemError.{ItemError}
+use Rattle.cs_syntax.specs.declared.items.Item as items
+use Rattle.cs_syntax.specs.declared.items.ItemError.{ItemError}
 use Rattle.cs_syntax.specs.Tokens.{Token, PatternItem, atom, repeat, bar, group_start, group_end, flags_from_here, item, fault}
 use Rattle.cs_syntax.specs.Items.{next_token}
 use Rattle.cs_syntax.specs.Parsing.{rejected, Group, SuffixParse, max_open_groups, parse_suffix, inside, with_repeat}
 use Rattle.cs_syntax.specs.ParserState.{PendingGroup, ParserState, Step, group_of, parse_from_state, goes_on, stops, step_repeat, step_open, step_close, step, IsOperand, HasOperand, IsErrorAt, IsErrorOf}
-use Rattle.cs_syntax.specs.declared.item.Before.{Before}
-use Rattle.cs_syntax.specs.declared.item.Before.TheVariants.{Start, Operand, Repeated}
-use Rattle.cs_syntax.specs.declared.item.Flags.{Flags}
+use Rattle.cs_syntax.specs.declared.items.Before.{Before}
+use Rattle.cs_syntax.specs.declared.items.Before.TheVariants.{Start, Operand, Repeated}
+use Rattle.cs_syntax.specs.declared.items.Flags.{Flags}
 use Rattle.cs_syntax.specs.declared.fault.PatternFault.{PatternFault}
 use Rattle.cs_syntax.specs.declared.fault.PatternError.{PatternError}
 use Rattle.cs_syntax.proofs.ListLemmas.{tail_is, lexeme_is}

@@ -20,10 +20,10 @@ use Rattle.cs_syntax.specs.ByteKinds.{byte_kind_of}
 use Rattle.cs_syntax.specs.Parsing.{SuffixParse, levels, inside, with_atom, parse_suffix, answer, flags_at_start, ParsesAs}
 use Rattle.cs_syntax.specs.Quoting.{metachars, quote_meta, atoms_of}
 use Rattle.cs_syntax.proofs.CountedRepeatLemmas.{atom_parsed, literal_token}
-use Rattle.cs_syntax.specs.declared.item.Flags.{Flags}
+use Rattle.cs_syntax.specs.declared.items.Flags.{Flags}
 use Rattle.cs_syntax.specs.declared.items.ByteKind.TheVariants.{Star, Plus, Question, Brace, Dot, Caret, Dollar, Bar, Open, Close, Class, Backslash, NonAscii, Literal}
-use Rattle.cs_syntax.specs.declared.item.Before.{Before}
-use Rattle.cs_syntax.specs.declared.item.Before.TheVariants.{Start, Operand}
+use Rattle.cs_syntax.specs.declared.items.Before.{Before}
+use Rattle.cs_syntax.specs.declared.items.Before.TheVariants.{Start, Operand}
 
 -- ---- metacharacters
 

@@ -11,12 +11,12 @@ use Rattle.cs_syntax.specs.Tokens.{Token, atom, item, fault, and_then, starts_wi
 use Rattle.cs_syntax.specs.ByteSet.{char_set}
 use Rattle.cs_syntax.specs.Numbers.{is_digit, count_digits, number_of_digits}
 use Rattle.cs_syntax.specs.Classes.{class_escape, class_char, range_to, range_from, span, name_length, posix_class, after_backslash, class_token, items_from, class_of, class}
-use Rattle.cs_syntax.specs.declared.item.ClassItem.{ClassItem}
-use Rattle.cs_syntax.specs.declared.item.ClassItem.TheVariants.{Range, Named}
-use Rattle.cs_syntax.specs.declared.item.NamedClass.{NamedClass}
+use Rattle.cs_syntax.specs.declared.items.ClassItem.{ClassItem}
+use Rattle.cs_syntax.specs.declared.items.ClassItem.TheVariants.{Range, Named}
+use Rattle.cs_syntax.specs.declared.items.NamedClass.{NamedClass}
 use Rattle.cs_syntax.specs.Repeats.{lazy, number, counts_to, counts_from, counts, is_bad, brace}
-use Rattle.cs_syntax.specs.declared.repeats.Number.{Number}
-use Rattle.cs_syntax.specs.declared.repeats.RepeatCounts.{RepeatCounts}
+use Rattle.cs_syntax.specs.declared.items.Number.{Number}
+use Rattle.cs_syntax.specs.declared.items.RepeatCounts.{RepeatCounts}
 use Rattle.cs_syntax.specs.Characters.{is_scalar}
 use Rattle.cs_syntax.specs.Escapes.{char_by_number, octal_char, hex_char_in_braces, hex_char, control_char, escaped_char, is_unsupported_escape, escaped_class, escaped_tree, char_token, escape}
 use Rattle.cs_syntax.specs.declared.escapes.EscapedChar.{EscapedChar}
@@ -24,7 +24,7 @@ use Rattle.cs_syntax.specs.Items.{next_token, token_by_kind}
 use Rattle.cs_syntax.specs.ByteKinds.{byte_kind_of}
 use Rattle.cs_syntax.specs.Groups.{name, with_set, with_cleared, after_flags, cleared_flags, set_flags, head, group}
 use Rattle.cs_syntax.specs.Parsing.{IsTextFault}
-use Rattle.cs_syntax.specs.declared.item.Flags.{Flags}
+use Rattle.cs_syntax.specs.declared.items.Flags.{Flags}
 use Rattle.cs_syntax.specs.declared.items.ByteKind.{ByteKind}
 use Rattle.cs_syntax.specs.declared.items.ByteKind.TheVariants.{Star, Plus, Question, Brace, Dot, Caret, Dollar, Bar, Open, Close, Class, Backslash, NonAscii, Literal}
 use Rattle.cs_syntax.specs.declared.fault.PatternFault.TheVariants.{BadEscape, BadRange, BadRepeat}

@@ -6,7 +6,7 @@ use Rattle.cs_syntax.specs.Tokens.{item, fault, group_start, group_end, flags_fr
 use Rattle.cs_syntax.specs.Items.{next_token}
 use Rattle.cs_syntax.specs.Classes.{name_length}
 use Rattle.cs_syntax.specs.Parsing.{flags_at_start}
-use Rattle.cs_syntax.specs.declared.item.Flags.{Flags}
+use Rattle.cs_syntax.specs.declared.items.Flags.{Flags}
 
 -- The flags at the end of the text, whose first `skip` bytes belong to the previous item. `outer` has the flags to
 -- restore at the end of each open group, the innermost first.

@@ -7,10 +7,10 @@ use Rattle.cs_syntax.specs.Matching.{Tree}
 use Rattle.cs_syntax.specs.Ranges.{word_ranges}
 use Rattle.cs_syntax.specs.ByteSet.{is_in_folded}
 use Rattle.cs_syntax.specs.CharTrees.{chars_tree}
-use Rattle.cs_syntax.specs.declared.item.NamedClass.{NamedClass}
-use Rattle.cs_syntax.specs.declared.item.NamedClass.TheVariants.{Alnum, Alpha, Ascii, Blank, Cntrl, Digit, Graph, Lower, Print, Punct, Space, Upper, Word, Xdigit, White}
-use Rattle.cs_syntax.specs.declared.item.ClassItem.{ClassItem}
-use Rattle.cs_syntax.specs.declared.item.ClassItem.TheVariants.{Range, Named}
+use Rattle.cs_syntax.specs.declared.items.NamedClass.{NamedClass}
+use Rattle.cs_syntax.specs.declared.items.NamedClass.TheVariants.{Alnum, Alpha, Ascii, Blank, Cntrl, Digit, Graph, Lower, Print, Punct, Space, Upper, Word, Xdigit, White}
+use Rattle.cs_syntax.specs.declared.items.ClassItem.{ClassItem}
+use Rattle.cs_syntax.specs.declared.items.ClassItem.TheVariants.{Range, Named}
 
 -- the inclusive ranges of a named class
 abbrev pub ranges_of : NamedClass → List (ℕ × ℕ)

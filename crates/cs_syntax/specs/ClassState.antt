@@ -6,9 +6,9 @@ use Rattle.cs_syntax.specs.Ranges.{is_in_ranges}
 use Rattle.cs_syntax.specs.Characters.{is_scalar, has_char}
 use Rattle.cs_syntax.specs.ClassSets.{is_in_item}
 use Rattle.cs_syntax.specs.Tokens.{Token, item, fault}
-use Rattle.cs_syntax.specs.declared.item.ClassItem.{ClassItem}
+use Rattle.cs_syntax.specs.declared.items.ClassItem.{ClassItem}
 use Rattle.cs_syntax.specs.declared.fault.PatternFault.TheVariants.{Memory}
-use Rattle.cs_syntax.specs.declared.item.ItemError.{ItemError}
+use Rattle.cs_syntax.specs.declared.items.ItemError.{ItemError}
 
 -- the character is in one of the items
 abbrev pub is_in_items : Bool → List ClassItem → ℕ → Bool

@@ -8,10 +8,10 @@ use Rattle.std.specs.Cmp.Lexicographic.{pointwise}
 use Rattle.cs_syntax.specs.ClassSets.{class_tree}
 use Rattle.cs_syntax.specs.Escapes.{escaped_char, escaped_class, is_unsupported_escape}
 use Rattle.cs_syntax.specs.Tokens.{PatternItem, Token, item, fault, and_then, atom, starts_with_byte, is_continuation}
-use Rattle.cs_syntax.specs.declared.item.NamedClass.{NamedClass}
-use Rattle.cs_syntax.specs.declared.item.NamedClass.TheVariants.{Alnum, Alpha, Ascii, Blank, Cntrl, Digit, Graph, Lower, Print, Punct, Space, Upper, Word, Xdigit}
-use Rattle.cs_syntax.specs.declared.item.ClassItem.{ClassItem}
-use Rattle.cs_syntax.specs.declared.item.ClassItem.TheVariants.{Range, Named}
+use Rattle.cs_syntax.specs.declared.items.NamedClass.{NamedClass}
+use Rattle.cs_syntax.specs.declared.items.NamedClass.TheVariants.{Alnum, Alpha, Ascii, Blank, Cntrl, Digit, Graph, Lower, Print, Punct, Space, Upper, Word, Xdigit}
+use Rattle.cs_syntax.specs.declared.items.ClassItem.{ClassItem}
+use Rattle.cs_syntax.specs.declared.items.ClassItem.TheVariants.{Range, Named}
 use Rattle.cs_syntax.specs.declared.fault.PatternFault.TheVariants.{OpenClass, BadRange, BadEscape, LoneBackslash, NotInProfile}
 
 -- the character of an escape in a class; the text follows the backslash

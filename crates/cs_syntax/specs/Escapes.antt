@@ -12,9 +12,9 @@ use Rattle.cs_syntax.specs.ClassSets.{item_tree}
 use Rattle.cs_syntax.specs.Characters.{is_scalar}
 use Rattle.cs_syntax.specs.Numbers.{is_digit, count_digits, number_of_digits}
 use Rattle.cs_syntax.specs.Tokens.{PatternItem, Token, item, fault, atom, starts_with_byte, char_tree}
-use Rattle.cs_syntax.specs.declared.item.NamedClass.TheVariants.{Digit, White, Word}
-use Rattle.cs_syntax.specs.declared.item.ClassItem.{ClassItem}
-use Rattle.cs_syntax.specs.declared.item.ClassItem.TheVariants.{Named}
+use Rattle.cs_syntax.specs.declared.items.NamedClass.TheVariants.{Digit, White, Word}
+use Rattle.cs_syntax.specs.declared.items.ClassItem.{ClassItem}
+use Rattle.cs_syntax.specs.declared.items.ClassItem.TheVariants.{Named}
 use Rattle.cs_syntax.specs.declared.escapes.EscapedChar.{EscapedChar}
 use Rattle.cs_syntax.specs.declared.fault.PatternFault.TheVariants.{BadEscape, LoneBackslash, NotInProfile}
 

@@ -5,7 +5,7 @@ use Rattle.std.specs.List.{prefix_len}
 use Rattle.cs_syntax.specs.Matching.{is_word}
 use Rattle.cs_syntax.specs.NumberList.{has}
 use Rattle.cs_syntax.specs.Tokens.{PatternItem, Token, item, fault, group_start, flags_from_here, starts_with_byte}
-use Rattle.cs_syntax.specs.declared.item.Flags.{Flags}
+use Rattle.cs_syntax.specs.declared.items.Flags.{Flags}
 use Rattle.cs_syntax.specs.declared.fault.PatternFault.TheVariants.{BadGroup, NotInProfile}
 
 -- after `(?<` or `(?P<`: a name and a `>`; `len` is the number of bytes between the parenthesis and the text

@@ -4,14 +4,14 @@ use Rattle.cs_syntax.specs.CharTrees.{ranges_tree}
 use Rattle.cs_syntax.specs.ClassSets.{item_tree, dot_tree}
 use Rattle.cs_syntax.specs.Matching.{Tree, one_of, line_start, line_end, word_edge, not_word_edge}
 use Rattle.cs_syntax.specs.Tokens.{PatternItem, Token, atom, repeat, bar, group_start, group_end, flags_from_here, item, fault, bytes_tree}
-use Rattle.cs_syntax.specs.declared.item.Atom as atom_type
-use Rattle.cs_syntax.specs.declared.item.Atom.TheVariants as atom_of
-use Rattle.cs_syntax.specs.declared.item.Item as items
-use Rattle.cs_syntax.specs.declared.item.Item.TheVariants as item_of
-use Rattle.cs_syntax.specs.declared.item.ItemError.{ItemError}
+use Rattle.cs_syntax.specs.declared.items.Atom as atom_type
+use Rattle.cs_syntax.specs.declared.items.Atom.TheVariants as atom_of
+use Rattle.cs_syntax.specs.declared.items.Item as items
+use Rattle.cs_syntax.specs.declared.items.Item.TheVariants as item_of
+use Rattle.cs_syntax.specs.declared.items.ItemError.{ItemError}
 use Rattle.cs_syntax.specs.declared.fault.PatternFault.{PatternFault}
 use Rattle.cs_syntax.specs.declared.fault.PatternFault.TheVariants.{Memory}
-use Rattle.cs_syntax.specs.declared.item.ClassItem.{ClassItem}
+use Rattle.cs_syntax.specs.declared.items.ClassItem.{ClassItem}
 
 -- the tree of an atom, given its text
 abbrev pub atom_tree : List ℕ → atom_type.Atom → Tree

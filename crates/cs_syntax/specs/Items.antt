@@ -11,7 +11,7 @@ use Rattle.cs_syntax.specs.Repeats.{lazy, brace}
 use Rattle.cs_syntax.specs.Groups.{group}
 use Rattle.cs_syntax.specs.Escapes.{escape}
 use Rattle.cs_syntax.specs.Classes.{class}
-use Rattle.cs_syntax.specs.declared.item.Flags.{Flags}
+use Rattle.cs_syntax.specs.declared.items.Flags.{Flags}
 use Rattle.cs_syntax.specs.declared.items.ByteKind.{ByteKind}
 use Rattle.cs_syntax.specs.declared.items.ByteKind.TheVariants.{Star, Plus, Question, Brace, Dot, Caret, Dollar, Bar, Open, Close, Class, Backslash, NonAscii, Literal}
 

@@ -5,10 +5,10 @@ use Rattle.cs_syntax.specs.NodeList.{trees_of}
 use Rattle.cs_syntax.specs.Tokens.{PatternItem, atom, repeat, bar, group_start, group_end, flags_from_here}
 use Rattle.cs_syntax.specs.Parsing.{ParseResult, rejected, Group, flags_at_start, max_open_groups, at_end, parse_suffix}
 use Rattle.cs_syntax.specs.PartialGroups.{PartialGroup, whole_parse, with_last_atom, with_last_atom_repeated, with_last_branch, tree_so_far, empty_group}
-use Rattle.cs_syntax.specs.declared.item.Before.{Before}
-use Rattle.cs_syntax.specs.declared.item.Before.TheVariants.{Start, Operand, Repeated}
-use Rattle.cs_syntax.specs.declared.builder.GroupBuilder.{GroupBuilder}
-use Rattle.cs_syntax.specs.declared.item.Flags.{Flags}
+use Rattle.cs_syntax.specs.declared.items.Before.{Before}
+use Rattle.cs_syntax.specs.declared.items.Before.TheVariants.{Start, Operand, Repeated}
+use Rattle.cs_syntax.specs.declared.parser.GroupBuilder.{GroupBuilder}
+use Rattle.cs_syntax.specs.declared.items.Flags.{Flags}
 use Rattle.cs_syntax.specs.declared.fault.PatternFault.{PatternFault}
 use Rattle.cs_syntax.specs.declared.fault.PatternFault.TheVariants.{NoOperand, StackedRepeat, StrayClose, TooDeep, Memory}
 use Rattle.cs_syntax.specs.declared.fault.PatternError.{PatternError}

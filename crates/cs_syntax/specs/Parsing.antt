@@ -5,9 +5,9 @@ use Rattle.std.specs.List.{fold}
 use Rattle.cs_syntax.specs.Matching.{Tree, Trees, alt, rep, none, more}
 use Rattle.cs_syntax.specs.Tokens.{sequence, atom, repeat, bar, group_start, group_end, flags_from_here, item, fault}
 use Rattle.cs_syntax.specs.Items.{next_token}
-use Rattle.cs_syntax.specs.declared.item.Flags.{Flags}
-use Rattle.cs_syntax.specs.declared.item.Before.{Before}
-use Rattle.cs_syntax.specs.declared.item.Before.TheVariants.{Start, Operand, Repeated}
+use Rattle.cs_syntax.specs.declared.items.Flags.{Flags}
+use Rattle.cs_syntax.specs.declared.items.Before.{Before}
+use Rattle.cs_syntax.specs.declared.items.Before.TheVariants.{Start, Operand, Repeated}
 use Rattle.cs_syntax.specs.declared.fault.PatternFault.{PatternFault}
 use Rattle.cs_syntax.specs.declared.fault.PatternFault.TheVariants.{NoOperand, StackedRepeat, OpenGroup, StrayClose, TooDeep, TooLarge, Memory}
 

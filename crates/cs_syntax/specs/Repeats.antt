@@ -5,8 +5,8 @@ use Rattle.cs_syntax.specs.ByteSet.{char_set}
 use Rattle.cs_syntax.specs.Matching.{one_of}
 use Rattle.cs_syntax.specs.Numbers.{count_digits, number_of_digits}
 use Rattle.cs_syntax.specs.Tokens.{PatternItem, Token, item, fault, atom, repeat, starts_with_byte}
-use Rattle.cs_syntax.specs.declared.repeats.Number.{Number}
-use Rattle.cs_syntax.specs.declared.repeats.RepeatCounts.{RepeatCounts}
+use Rattle.cs_syntax.specs.declared.items.Number.{Number}
+use Rattle.cs_syntax.specs.declared.items.RepeatCounts.{RepeatCounts}
 use Rattle.cs_syntax.specs.declared.fault.PatternFault.TheVariants.{BadRepeat}
 
 -- A repeat operator with `len` bytes after its first. A `?` after it (lazy) belongs to it and does not change the tree.

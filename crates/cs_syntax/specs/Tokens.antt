@@ -3,7 +3,7 @@
 use Rattle.std.specs.Prelude.{ℕ, ◌+◌, Bool, false, ◌&&◌, List, [], ◌∷◌, Option, nat_eq, nat_le, nat_lt, if◌then◌else◌, encode_utf8}
 use Rattle.cs_syntax.specs.Matching.{Tree, Trees, empty, one_of, cat, none, more}
 use Rattle.cs_syntax.specs.ByteSet.{char_set}
-use Rattle.cs_syntax.specs.declared.item.Flags.{Flags}
+use Rattle.cs_syntax.specs.declared.items.Flags.{Flags}
 use Rattle.cs_syntax.specs.declared.fault.PatternFault.{PatternFault}
 
 pub data PatternItem : Type 0 where

@@ -1,8 +1,8 @@
 -- The saturation of parsed numbers at `u32::MAX`.
 use Rattle.std.specs.Prelude.{ℕ, min}
 use Rattle.std.specs.Option.{option_map}
-use Rattle.cs_syntax.specs.declared.repeats.Number.{Number}
-use Rattle.cs_syntax.specs.declared.repeats.RepeatCounts.{RepeatCounts}
+use Rattle.cs_syntax.specs.declared.items.Number.{Number}
+use Rattle.cs_syntax.specs.declared.items.RepeatCounts.{RepeatCounts}
 
 abbrev pub max_u32 : ℕ
 max_u32 = 4294967295

@@ -6,10 +6,9 @@ ghost use Rattle.cs_syntax.specs.ItemViews.{StaysWithin, token_view, atom_tree};
 ghost use Rattle.cs_syntax.specs.Escapes.{char_by_number, octal_char, hex_char_in_braces, hex_char, control_char, escaped_char, escaped_class, is_unsupported_escape, escaped_tree, char_token, escape};
 
 use crate::byte_set::{ByteSet, is_letter};
-use crate::digits::{count_digits, is_digit, value_in};
 use crate::fault::PatternFault;
-use crate::item::{Atom, ClassItem, Item, ItemError, NamedClass};
-use crate::lookahead::starts_with_byte;
+use crate::items::{Atom, ClassItem, Item, ItemError, NamedClass};
+use crate::lookahead::{count_digits, is_digit, starts_with_byte, value_in};
 
 /// The character of an escape, and the number of bytes after the backslash.
 #[derive(Clone, Copy, Drop)]

@@ -19,8 +19,8 @@ ghost use Rattle.std.specs.List.{AllByRecursion};
 ghost use Rattle.cs_syntax.specs.declared.items.ByteKind.TheVariants.{Literal};
 ghost use Rattle.cs_syntax.specs.declared.fault.PatternFault.TheVariants.{BadRepeat};
 ghost use Rattle.cs_syntax.specs.Parsing.{ParsesAs, HasSyntaxError, IsTextFault, Group, Level, levels, parse_suffix};
-ghost use Rattle.cs_syntax.specs.declared.item.Before.{Before};
-ghost use Rattle.cs_syntax.specs.declared.item.Flags.{Flags};
+ghost use Rattle.cs_syntax.specs.declared.items.Before.{Before};
+ghost use Rattle.cs_syntax.specs.declared.items.Flags.{Flags};
 ghost use Rattle.cs_syntax.specs.declared.fault.PatternFault.{PatternFault};
 
 /// A text parses as exactly one tree or has exactly one syntax error, and never both.

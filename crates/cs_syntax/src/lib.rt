@@ -31,33 +31,21 @@
 //! `specs/CharSteps.antt`).
 #![tactic(auto)]
 
-mod atoms;
-mod builder;
 mod byte_set;
 mod char_set;
 mod char_step;
-mod class_sets;
 mod classes;
-mod cuts;
-mod digits;
 mod escapes;
 mod fault;
-mod groups;
-mod item;
 mod items;
 pub mod laws;
 mod lookahead;
 mod node;
 mod parser;
-mod pattern;
-mod repeats;
-mod weight;
 
 pub use byte_set::ByteSet;
 pub use char_set::CharSet;
-pub use char_step::{CharStep, Unfinished};
-pub use cuts::Cuts;
+pub use char_step::{CharStep, Cuts, Unfinished};
 pub use fault::{PatternError, PatternFault};
-pub use node::Node;
+pub use node::{Node, Pattern};
 pub use parser::parse;
-pub use pattern::Pattern;

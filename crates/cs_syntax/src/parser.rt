@@ -1,19 +1,22 @@
-// The parser: one pass over the text, with an explicit stack of the open groups (as in RE2).
-ghost use Rattle.std.specs.Prelude.{◌≡◌, ◌+◌, ◌<◌, ◌≤◌, ℕ, OnOk, IfOk, IfErr, length};
-ghost use Rattle.cs_syntax.specs.Tokens.{atom, repeat, bar, group_start, group_end, flags_from_here};
+// The parser: one pass over the text, with an explicit stack of the open groups (as in RE2), and
+// the trees of groups and atoms.
+ghost use Rattle.std.specs.Prelude.{◌≡◌, ◌+◌, ◌<◌, ◌≤◌, ℕ, OnOk, IfOk, IfErr, length, Option};
+ghost use Rattle.cs_syntax.specs.Tokens.{atom, repeat, bar, group_start, group_end, flags_from_here, sequence, bytes_tree};
 ghost use Rattle.cs_syntax.specs.Node.{tree_of};
 ghost use Rattle.cs_syntax.specs.Parsing.{ParsesAs, parse_result, tree};
 ghost use Rattle.cs_syntax.specs.ParseErrors.{IsParseError};
 ghost use Rattle.cs_syntax.specs.ItemViews.{atom_tree, item_view};
 ghost use Rattle.cs_syntax.specs.Weight.{max_weight, weight};
+ghost use Rattle.cs_syntax.specs.NodeList.{trees_of};
+ghost use Rattle.cs_syntax.specs.PartialGroups.{with_last_atom, with_last_atom_repeated, with_last_branch, tree_so_far, empty_group};
+ghost use Rattle.cs_syntax.specs.CharTrees.{are_ascii, ranges_tree};
 
-use crate::atoms::atom_node;
-use crate::builder::GroupBuilder;
+use crate::byte_set::ByteSet;
+use crate::char_set::CharSet;
+use crate::classes::{dot, one_item};
 use crate::fault::{PatternError, PatternFault};
-use crate::item::{Atom, Before, Flags, Item};
-use crate::items::read_token;
-use crate::node::Node;
-use crate::pattern::Pattern;
+use crate::items::{Atom, Before, Flags, Item, read_token};
+use crate::node::{Node, Pattern};
 use std::alloc::{AllocError, Global};
 use std::mem;
 
@@ -240,6 +243,85 @@ impl Parser {
     }
 }
 
+/// The finished branches of a group, and the atoms of the current branch.
+#[derive(Drop)]
+pub(crate) struct GroupBuilder {
+    branches: Vec<Node>,
+    atoms: Vec<Node>,
+}
+
+impl GroupBuilder {
+    ghost use Rattle.cs_syntax.specs.ParserState.{partial_group};
+
+    pub(crate) fn new(alloc: Global) -> GroupBuilder
+        ensures { partial_group result ≡ empty_group }
+    {
+        GroupBuilder {
+            branches: Vec::new(alloc),
+            atoms: Vec::new(alloc),
+        }
+    }
+
+    /// Appends an atom to the current branch.
+    #[tactic(auto, using(crate::proofs::TreeLemmas::trees_last))]
+    pub(crate) fn add(&mut self, atom: Node) -> Result<(), AllocError>
+        ensures more { OnOk result (partial_group self.new
+            ≡ with_last_atom (partial_group self.old) (tree_of atom)) }
+        ensures some { OnOk result (0 < length self.new.atoms.items) }
+    {
+        self.atoms.push(atom)?;
+        Ok(())
+    }
+
+    /// Wraps the last atom in a repeat.
+    #[tactic(auto, using(crate::proofs::TreeLemmas::trees_last))]
+    pub(crate) fn repeat(
+        &mut self,
+        alloc: Global,
+        least: u32,
+        most: Option<u32>,
+    ) -> Result<(), AllocError>
+        requires { 0 < length self.old.atoms.items }
+        ensures { OnOk result (partial_group self.new
+            ≡ with_last_atom_repeated least most (partial_group self.old)) }
+    {
+        let atom = match self.atoms.pop() {
+            Some(atom) => atom,
+            None => unreachable!(),
+        };
+        self.atoms
+            .push(Node::Rep(Box::new(alloc, atom)?, least, most))?;
+        Ok(())
+    }
+
+    /// Ends the current branch at a `|`.
+    #[tactic(auto, using(crate::proofs::TreeLemmas::trees_last))]
+    pub(crate) fn bar(&mut self, alloc: Global) -> Result<(), AllocError>
+        ensures { OnOk result (partial_group self.new ≡ with_last_branch (partial_group self.old)) }
+    {
+        let atoms = mem::replace(&mut self.atoms, Vec::new(alloc));
+        self.branches.push(sequence_of(atoms))?;
+        Ok(())
+    }
+
+    /// The tree of the group.
+    #[tactic(auto, using(crate::proofs::TreeLemmas::branches_last))]
+    pub(crate) fn finish(self) -> Result<Node, AllocError>
+        ensures { IfOk result (λ n. tree_of n ≡ tree_so_far (partial_group self)) }
+    {
+        let GroupBuilder {
+            mut branches,
+            atoms,
+        } = self;
+        let last = sequence_of(atoms);
+        if branches.is_empty() {
+            return Ok(last);
+        }
+        branches.push(last)?;
+        Ok(Node::Alt(branches))
+    }
+}
+
 ghost use Rattle.cs_syntax.specs.ParserState.{IsErrorOf};
 
 /// Parses a pattern. The syntax is RE2's, with the differences that docs/PATTERNS.md lists. With
@@ -255,6 +337,46 @@ pub fn parse(alloc: Global, text: &str, fold: bool) -> Result<Pattern, PatternEr
     Pattern::new(root)
 }
 
+/// The tree of a sequence: empty, a single node, or `Cat`.
+#[tactic(auto, using(crate::proofs::TreeLemmas::several))]
+pub(crate) fn sequence_of(mut atoms: Vec<Node>) -> Node
+    ensures { tree_of result ≡ sequence (trees_of atoms.items) }
+{
+    if atoms.len() != 1 {
+        return if atoms.is_empty() {
+            Node::Empty
+        } else {
+            Node::Cat(atoms)
+        };
+    }
+    match atoms.pop() {
+        Some(atom) => atom,
+        None => unreachable!(),
+    }
+}
+
+/// The tree of an atom, whose text is `lexeme`.
+pub(crate) fn atom_node(alloc: Global, atom: Atom, lexeme: &[u8]) -> Result<Node, AllocError>
+    ensures { IfOk result (λ n. tree_of n ≡ atom_tree lexeme.now atom) }
+{
+    match atom {
+        Atom::Set(set) => Ok(Node::Set(set)),
+        Atom::Chars(set) => Ok(chars_node(set)),
+        Atom::Class(item) => Ok(chars_node(one_item(alloc, item)?)),
+        Atom::Dot(dot_all) => Ok(chars_node(dot(alloc, dot_all)?)),
+        Atom::Char(char) => {
+            let mut buffer = [0; 4];
+            let bytes = char.encode_utf8(&mut buffer);
+            bytes_node(alloc, bytes.as_bytes())
+        }
+        Atom::Verbatim => bytes_node(alloc, lexeme),
+        Atom::LineStart => Ok(Node::LineStart),
+        Atom::LineEnd => Ok(Node::LineEnd),
+        Atom::WordEdge => Ok(Node::WordEdge),
+        Atom::NotWordEdge => Ok(Node::NotWordEdge),
+    }
+}
+
 fn read(alloc: Global, text: &str, fold: bool) -> Result<Node, PatternError>
     ensures reads { IfOk result (λ n. ParsesAs text.now fold (tree_of n)) }
     ensures syntax { IfErr result (IsErrorOf (parse_result text.now fold)) }
@@ -266,4 +388,33 @@ fn read(alloc: Global, text: &str, fold: bool) -> Result<Node, PatternError>
         offset = parser.read_item(alloc, bytes, offset)?;
     }
     parser.end()
+}
+
+/// The sequence of the bytes.
+fn bytes_node(alloc: Global, bytes: &[u8]) -> Result<Node, AllocError>
+    ensures { IfOk result (λ n. tree_of n ≡ bytes_tree bytes.now) }
+{
+    let mut sets = Vec::new(alloc);
+    for &byte in bytes {
+        sets.push(Node::Set(ByteSet::of_char(false, byte)))?;
+    }
+    Ok(sequence_of(sets))
+}
+
+/// Whether all characters of the ranges are ASCII.
+fn are_ascii(ranges: &[(u32, u32)]) -> bool
+    ensures { result ≡ are_ascii ranges.now }
+{
+    ranges.iter().all(|range| range.1 < 0x80)
+}
+
+/// The node of a set of characters: `Set` if all are ASCII, otherwise `Chars`.
+fn chars_node(set: CharSet) -> Node
+    ensures { tree_of result ≡ ranges_tree set }
+{
+    if are_ascii(set.runs()) {
+        Node::Set(ByteSet::of_ascii(set.runs()))
+    } else {
+        Node::Chars(set)
+    }
 }

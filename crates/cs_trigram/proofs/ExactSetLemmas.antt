@@ -16,7 +16,7 @@ use Rattle.cs_trigram.specs.declared.exact_set.ExactSet.{ExactSet}
 use Rattle.cs_trigram.specs.declared.exact_set.ExactSet.TheVariants.{Strings, Many, Infinite}
 use Rattle.cs_trigram.proofs.MemberLemmas.{first_member, no_member, different_within, different_map, member_map}
 use Rattle.cs_trigram.proofs.EnumerationLemmas.{enumeration_same}
-use Rattle.cs_trigram.specs.declared.exact_string.ExactString.{ExactString}
+use Rattle.cs_trigram.specs.declared.exact_set.ExactString.{ExactString}
 use Rattle.cs_trigram.proofs.RepeatLemmas.{longer_iterations, iterations_longer}
 use Rattle.cs_trigram.proofs.LeadingRunLemmas.{concatenates_one, exact_of_one, tree_not_finite}
 

@@ -3,7 +3,7 @@ use Rattle.std.proofs.Common.{◌≡◌, ◌≤◌, ◌<◌, ℕ, zero, suc, ◌
 use Rattle.std.proofs.lemmas.Bool.{cases_lt, eq-eqb, ne_eqb, lt-ltb, le-ltb, lt-leb, le-leb, or_left}
 use Rattle.std.proofs.lemmas.List.{append-nil, take_more}
 use Rattle.std.specs.List.{AllByRecursion}
-use Rattle.cs_trigram.specs.declared.limits.Limits.{Limits}
+use Rattle.cs_trigram.specs.declared.scan.Limits.{Limits}
 use Rattle.cs_trigram.specs.declared.scan.Reason.TheVariants.{Nul, Utf8, TooLong, LongLine}
 use Rattle.cs_trigram.specs.Text.{valid_utf8_pair, last_byte, line_so_far, rule_broken, first_broken}
 use Rattle.std.specs.Option.{option_or}

@@ -5,7 +5,7 @@ use Rattle.cs_tree.specs.ConsumesAtMost.{ConsumesAtMost}
 use Rattle.cs_trigram.specs.Scans.{skipped_or, scan_outcome_of, text, skipped_for, read_failed, IsScanOf}
 use Rattle.cs_tree.specs.StreamModels.{SourceModel, Ending, ends, fails}
 use Rattle.cs_tree.proofs.ConsumesLemmas.{Consumes_few}
-use Rattle.cs_trigram.specs.declared.limits.Limits.{Limits}
+use Rattle.cs_trigram.specs.declared.scan.Limits.{Limits}
 use Rattle.cs_trigram.specs.declared.position.TextPosition.{TextPosition}
 use Rattle.cs_trigram.specs.declared.seen_trigrams.SeenTrigrams.{SeenTrigrams}
 use Rattle.cs_trigram.specs.declared.scan.Reason.{Reason}

@@ -5,9 +5,9 @@ use Rattle.cs_trigram.specs.ExactSet.{IsExactSetOf, AreExactSetsReversed}
 use Rattle.cs_trigram.specs.EndStrings.{forward, backward, AreEndStrings, AreEndStringsOfSome}
 use Rattle.cs_trigram.specs.ExactQuery.{HasFewExactStrings, RequiresExactString}
 use Rattle.cs_trigram.specs.Analysis.{IsCorrect, AreCorrect}
-use Rattle.cs_trigram.specs.declared.regexp_info.RegexpInfo.{RegexpInfo}
-use Rattle.cs_trigram.specs.declared.regexp_info.SequenceInfo.{SequenceInfo}
-use Rattle.cs_trigram.specs.declared.regexp_info.AlternationInfo.{AlternationInfo}
+use Rattle.cs_trigram.specs.declared.analysis.RegexpInfo.{RegexpInfo}
+use Rattle.cs_trigram.specs.declared.analysis.SequenceInfo.{SequenceInfo}
+use Rattle.cs_trigram.specs.declared.analysis.AlternationInfo.{AlternationInfo}
 
 pub record IsInfoOf (info : RegexpInfo) (t : Tree) : Type 0 where
   pub exact : IsExactSetOf info.exact t

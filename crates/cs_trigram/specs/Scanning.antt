@@ -1,8 +1,8 @@
 -- A scanner that is ready for the next file: its buffer has room for a block, and its set can be emptied.
 use Rattle.std.specs.Prelude.{◌≡◌, ◌+◌, length}
-use Rattle.cs_trigram.specs.declared.limits.Limits.{Limits}
+use Rattle.cs_trigram.specs.declared.scan.Limits.{Limits}
 use Rattle.cs_trigram.specs.declared.seen_trigrams.TheConstants.{WITH_TWO}
-use Rattle.cs_trigram.specs.declared.gatherer.Gatherer.{Gatherer}
+use Rattle.cs_trigram.specs.declared.scanner.Gatherer.{Gatherer}
 use Rattle.cs_trigram.specs.Position.{AreSmallLimits}
 use Rattle.cs_trigram.specs.SeenTrigrams.{IsSound}
 

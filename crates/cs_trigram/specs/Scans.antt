@@ -2,7 +2,7 @@
 -- docs/FORMAT.md, "Which files are text".
 use Rattle.std.specs.Prelude.{◌≡◌, ℕ, Bool, false, List, [], length, Option, Some, None, Result, Ok, Err, true}
 use Rattle.cs_tree.specs.StreamModels.{SourceModel, Ending, ends, fails}
-use Rattle.cs_trigram.specs.declared.limits.Limits.{Limits}
+use Rattle.cs_trigram.specs.declared.scan.Limits.{Limits}
 use Rattle.cs_trigram.specs.declared.scan.Reason.{Reason}
 use Rattle.cs_trigram.specs.declared.scan.Scan.{Scan}
 use Rattle.cs_trigram.specs.declared.scan.Scan.TheVariants as answer

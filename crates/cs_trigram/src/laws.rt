@@ -5,7 +5,7 @@ ghost use Rattle.cs_trigram.specs.Scans.{scan_outcome_of, text, skipped_for};
 ghost use Rattle.std.specs.List.{AllByRecursion};
 ghost use Rattle.cs_tree.specs.StreamModels.{ends};
 ghost use Rattle.cs_syntax.specs.Matching.{Tree, HasMatch};
-ghost use Rattle.cs_trigram.specs.declared.limits.Limits.{Limits};
+ghost use Rattle.cs_trigram.specs.declared.scan.Limits.{Limits};
 ghost use Rattle.cs_trigram.specs.declared.scan.Reason.{Reason};
 ghost use Rattle.cs_trigram.specs.Trigram.{trigram, tri, closing_trigram, Ascends, has};
 ghost use Rattle.cs_trigram.specs.Query.{HasTrigrams};

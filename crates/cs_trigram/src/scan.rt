@@ -1,4 +1,4 @@
-// The results of a scan.
+// The limits and the results of a scan.
 ghost use Rattle.std.specs.Prelude.{◌≡◌};
 ghost use Rattle.cs_trigram.specs.declared.scan.ScanFault.TheVariants as fault;
 
@@ -60,3 +60,19 @@ impl<T: Drop> From<AllocFailed<T>> for ScanFault {
         ScanFault::Memory
     }
 }
+
+/// The most bytes of a file, the most bytes of a line with its newline, and the most distinct
+/// trigrams.
+#[derive(Clone, Copy, Debug, PartialEq, Eq)]
+pub struct Limits {
+    pub bytes: u64,
+    pub line: usize,
+    pub trigrams: usize,
+}
+
+/// The limits of an indexed file.
+pub(crate) const LIMITS: Limits = Limits {
+    bytes: 1 << 30,
+    line: 2000,
+    trigrams: 20_000,
+};

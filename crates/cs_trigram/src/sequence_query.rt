@@ -10,13 +10,11 @@ ghost use Rattle.cs_trigram.specs.Analysis.{cross_size, IsCorrect, IsMatchQuery,
 ghost use Rattle.cs_syntax.specs.TreeList.{append};
 ghost use Rattle.cs_trigram.specs.ExactStrings.{HaveFewExactStrings};
 
-use crate::connectives::{add_conjunct, any_string};
-use crate::cross_product::cross_product_query;
-use crate::end_strings::EndString;
-use crate::exact_set::ExactSet;
-use crate::exact_string::{ExactString, MAX_EXACT, are_longer, cross_product, prepended};
-use crate::expansion::empty_string;
-use crate::queries::Query;
+use crate::end_strings::{EndString, cross_product_query};
+use crate::exact_set::{
+    ExactSet, ExactString, MAX_EXACT, are_longer, cross_product, empty_string, prepended,
+};
+use crate::queries::{Query, add_conjunct, any_string};
 use std::alloc::{AllocError, Global};
 
 /// The query of the last parts of a sequence.

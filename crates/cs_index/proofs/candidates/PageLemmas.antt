@@ -7,8 +7,7 @@ use Rattle.std.proofs.lemmas.List.{take-append-le, take_all}
 use Rattle.std.proofs.lemmas.List.Elements.{filter-append}
 use Rattle.cs_trigram.specs.declared.queries.Query.{Query}
 use Rattle.cs_index.specs.OpenedParts.{Parts}
-use Rattle.cs_index.specs.Candidates.{candidates_of, name_matches}
-use Rattle.cs_index.specs.Answerable.{AreCandidates}
+use Rattle.cs_index.specs.Candidates.{candidates_of, name_matches, AreCandidates}
 use Rattle.cs_index.specs.CandidatePages.{candidates_from, AreOnPage}
 use Rattle.cs_index.specs.declared.reading.candidates.Page.{Page}
 use Rattle.cs_index.specs.declared.fault.IndexFault.{IndexFault}

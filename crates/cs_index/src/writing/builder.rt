@@ -5,14 +5,13 @@ ghost use Rattle.cs_trigram.specs.Scans.{AreDistinctTrigrams};
 ghost use Rattle.cs_index.specs.Encoding.{encoding, encoding_of, names_of};
 ghost use Rattle.cs_index.specs.Indexable.{IsIndexable};
 ghost use Rattle.cs_index.specs.LeastLength.{least_length, IsAlwaysLonger};
-ghost use Rattle.cs_index.specs.Built.{with_entry, are_paths, file_map, is_above, is_storable, IsBuilt, IsFull, IsOutOfOrder, max_names, path_set};
+ghost use Rattle.cs_index.specs.Built.{with_entry, are_paths, file_map, is_above, is_storable, IsBuilt, IsFull, IsOutOfOrder, path_set};
+ghost use Rattle.cs_index.specs.MaxNames.{max_names};
 
 use crate::fault::BuildFault;
-use crate::writing::bucket::Bucket;
-use crate::writing::buckets::{empty_buckets, pop_file, push_file, write_buckets};
+use crate::writing::buckets::{Bucket, empty_buckets, pop_file, push_file, write_buckets};
 use crate::writing::sections::Sections;
-use crate::writing::storable_texts::{are_index_paths, is_text};
-use crate::writing::strings::{Strings, strings_of};
+use crate::writing::strings::{Strings, are_index_paths, is_text, strings_of};
 use cs_output::{Output, Sent};
 use std::alloc::Global;
 use std::marker::Model;

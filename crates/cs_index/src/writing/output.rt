@@ -1,16 +1,15 @@
-// The bytes of an index, section by section.
-ghost use Rattle.std.specs.Prelude.{◌≡◌, ◌<◌, ◌≤◌, ◌⊎◌, ◌^◌, ◌++◌, ◌∷◌, [], List, ℕ, length, map, flat_map, Err, IfOk, IfErr, OnOk, OnErr};
+// The bytes of an index, section by section, on their way to an output.
+ghost use Rattle.std.specs.Prelude.{◌≡◌, ◌<◌, ◌≤◌, ◌⊎◌, ◌^◌, ◌++◌, ◌∷◌, [], List, ℕ, length, map, flat_map, Err, IfOk, IfErr, OnOk, OnErr, ◌+◌};
 ghost use Rattle.std.specs.List.{AllByRecursion, concat};
-ghost use Rattle.cs_index.specs.Encoding.{entry_bytes, four_bytes, layout, list_entries, posting_list_bytes, sections_of, trailer_magic, ListEntry};
+ghost use Rattle.cs_index.specs.Encoding.{entry_bytes, four_bytes, layout, list_entries, posting_list_bytes, sections_of, trailer_magic, ListEntry, varint};
 ghost use Rattle.cs_index.specs.SectionsInvariant.{entry_from, lists_at};
-ghost use Rattle.cs_index.specs.Sending.{bytes_in};
+ghost use Rattle.cs_index.specs.Sending.{bytes_in, all_sent, with_bytes};
 ghost use Rattle.cs_index.specs.Written.{prefix_of};
 
 use crate::fault::BuildFault;
 use crate::format::{MAGIC, TRAILER_LEN, TRAILER_MAGIC};
-use crate::writing::numbers::{write_entry, write_numbers};
-use crate::writing::send_buffer::SendBuffer;
-use crate::writing::strings::Strings;
+use crate::writing::strings::{Strings, push_varint, write_entry, write_numbers};
+use cs_output::{Output, Sent};
 use std::alloc::{AllocError, Global};
 use std::marker::Model;
 
@@ -28,6 +27,114 @@ impl Model for WrittenList {
     ghost Value = { ListEntry };
 
     ghost view = { λ l. record { trigram = l.trigram; count = l.count; offset = l.start } };
+}
+
+/// The maximum number of bytes that are sent, so that no sum of offsets wraps.
+const MAX_SENT: usize = 1 << 62;
+
+/// The bytes of an index: those that were sent to an output are only counted, the others are in
+/// memory.
+#[derive(Drop)]
+pub(crate) struct SendBuffer {
+    sent: Sent,
+    sent_len: usize,
+    bytes: Vec<u8>,
+}
+
+impl Model for SendBuffer {
+    ghost use Rattle.std.specs.Prelude.{◌≡◌, ◌≤◌, ◌^◌, length};
+    ghost use Rattle.cs_index.specs.Sending.{Outgoing};
+
+    ghost Value = { Outgoing };
+
+    ghost view = { λ b. record { sent = b.sent.bytes; unsent = b.bytes.items } };
+
+    ghost invariant = { λ b. (b.sent_len ≡ length b.sent.bytes) × (b.sent_len ≤ 2 ^ 62) };
+}
+
+impl SendBuffer {
+    /// These bytes, none of them sent.
+    pub(crate) fn new(bytes: Vec<u8>) -> SendBuffer
+        ensures { result ≡ record { sent = []; unsent = bytes.items } }
+    {
+        SendBuffer {
+            sent: Sent::new(),
+            sent_len: 0,
+            bytes,
+        }
+    }
+
+    /// The number of all bytes, sent or not.
+    pub(crate) fn len(&self) -> usize
+        ensures value { result ≡ length (bytes_in self.now) }
+        ensures within { result ≤ 2 ^ 62 + 2 ^ 63 }
+    {
+        self.sent_len + self.bytes.len()
+    }
+
+    /// The number of bytes that are not sent yet.
+    pub(crate) fn unsent_len(&self) -> usize
+        ensures { result ≡ length self.now.unsent }
+    {
+        self.bytes.len()
+    }
+
+    /// Appends bytes. On error nothing changes.
+    #[inline]
+    pub(crate) fn append(&mut self, bytes: &[u8]) -> Result<(), AllocError>
+        ensures ok { OnOk result (self.new ≡ with_bytes self.old bytes.now) }
+        ensures err { OnErr result (self.new ≡ self.old) }
+    {
+        self.bytes.extend_from_slice(bytes)
+    }
+
+    /// Appends a number in as few bytes as possible. On error nothing changes.
+    #[inline]
+    pub(crate) fn append_varint(&mut self, n: u32) -> Result<(), AllocError>
+        ensures ok { OnOk result (self.new ≡ with_bytes self.old (varint n)) }
+        ensures err { OnErr result (self.new ≡ self.old) }
+    {
+        push_varint(&mut self.bytes, n)
+    }
+
+    /// Appends two slices. On error nothing changes.
+    pub(crate) fn append_both(&mut self, header: &[u8], ids: &[u8]) -> Result<(), AllocError>
+        ensures ok { OnOk result (self.new ≡ with_bytes self.old (header.now ++ ids.now)) }
+        ensures err { OnErr result (self.new ≡ self.old) }
+    {
+        let len = self.bytes.len();
+        self.bytes.extend_from_slice(header)?;
+        if self.bytes.extend_from_slice(ids).is_err() {
+            self.bytes.truncate(len);
+            return Err(AllocError);
+        }
+        Ok(())
+    }
+
+    /// Sends all bytes. On error nothing changes.
+    pub(crate) fn send<O: Output>(&mut self, out: &mut O) -> Result<(), AllocError>
+        ensures ok { OnOk result (self.new ≡ all_sent self.old) }
+        ensures given { OnOk result (O.given out.new ≡ O.given out.old ++ self.old.unsent) }
+        ensures err { OnErr result (self.new ≡ self.old) }
+        ensures keeps { O.Keeps out.old out.new }
+    {
+        let sent_len = self.len();
+        if sent_len > MAX_SENT {
+            return Err(AllocError);
+        }
+        out.append(&self.bytes)?;
+        self.sent.push(&self.bytes);
+        self.sent_len = sent_len;
+        self.bytes.clear();
+        Ok(())
+    }
+
+    /// The bytes that were sent.
+    pub(crate) fn into_sent(self) -> Sent
+        ensures { result.bytes ≡ self.sent }
+    {
+        self.sent
+    }
 }
 
 /// The output before the posting lists: the magic, the paths and the names.

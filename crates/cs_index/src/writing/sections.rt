@@ -14,11 +14,8 @@ ghost use Rattle.cs_index.specs.WrittenLists.{with_posting, AreFirstIds, IsWritt
 
 use crate::encoded_run::EncodedRun;
 use crate::fault::BuildFault;
-use crate::writing::output::{WrittenList, append_tables, write_prefix};
-use crate::writing::send_buffer::SendBuffer;
-use crate::writing::storable_texts::are_index_paths;
-use crate::writing::strings::{Strings, strings_of};
-use crate::writing::varint::encode_varint;
+use crate::writing::output::{SendBuffer, WrittenList, append_tables, write_prefix};
+use crate::writing::strings::{Strings, are_index_paths, encode_varint, strings_of};
 use cs_output::{Output, Sent};
 use std::alloc::{AllocError, Global};
 use std::marker::Model;

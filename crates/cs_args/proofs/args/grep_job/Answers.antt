@@ -1,9 +1,8 @@
 use Rattle.std.proofs.Common.{◌∙◌, sym, subst, ap}
 use Rattle.std.proofs.lemmas.List.{length-map}
 use Rattle.std.specs.Prelude.{map, string_bytes, Ok, ◌==◌}
-use Rattle.cs_args.specs.JobView.{grep}
+use Rattle.cs_args.specs.JobView.{grep, GivesJob}
 use Rattle.cs_args.specs.Args.{grep_job as grep_by}
-use Rattle.cs_args.specs.Settings.{GivesJob}
 use Rattle.cs_args.specs.declared.jobs.Job.TheVariants.{Grep}
 use Rattle.cs_args.proofs.ReadOptionsLemmas.{grep_answer}
 use Rattle.cs_args.proofs.args.grep_job.Goals as goal

@@ -3,7 +3,7 @@ use Rattle.std.proofs.lemmas.List.{length-map}
 use Rattle.std.specs.Prelude.{map, string_bytes, length}
 use Rattle.std.proofs.lemmas.Result.{err_from_is_err_and}
 use Rattle.cs_args.specs.Args.{parse_args, option_items, job_by}
-use Rattle.cs_args.specs.Settings.{GivesJob}
+use Rattle.cs_args.specs.JobView.{GivesJob}
 use Rattle.cs_args.proofs.ReadOptionsLemmas.{parse_args-faulty, parse_args-sound, parse_args-memory, answer_job, answer_fault, answer_memory}
 use Rattle.cs_args.proofs.args.read_words.Goals as goal
 

@@ -1,8 +1,7 @@
 use Rattle.std.proofs.Common.{◌∙◌, sym, subst, arith}
 use Rattle.std.specs.Prelude.{map, string_bytes, Ok}
-use Rattle.cs_args.specs.JobView.{search}
+use Rattle.cs_args.specs.JobView.{search, GivesJob}
 use Rattle.cs_args.specs.Args.{search_job as search_by}
-use Rattle.cs_args.specs.Settings.{GivesJob}
 use Rattle.cs_args.specs.declared.jobs.Job.TheVariants.{Search}
 use Rattle.cs_args.proofs.ReadOptionsLemmas.{search_answer, one_item}
 use Rattle.cs_args.proofs.args.search_job.Goals as goal

@@ -4,9 +4,9 @@ use Rattle.std.specs.declared.alloc.Global.{Global}
 use Rattle.std.proofs.lemmas.Option.{slice_get_read, slice_get_past}
 use Rattle.cs_tree.specs.StreamModels.{source_model}
 use Rattle.cs_fakes.specs.MemTrees.{left_at, left_of}
-use Rattle.cs_fakes.specs.declared.tree_types.MemEntry.{MemEntry}
-use Rattle.cs_fakes.specs.declared.tree_types.MemItem.{MemItem}
-use Rattle.cs_fakes.specs.declared.tree_types.MemItem.TheVariants.{Folder, File, Cut, Other, Denied}
+use Rattle.cs_fakes.specs.declared.types.MemEntry.{MemEntry}
+use Rattle.cs_fakes.specs.declared.types.MemItem.{MemItem}
+use Rattle.cs_fakes.specs.declared.types.MemItem.TheVariants.{Folder, File, Cut, Other, Denied}
 use Rattle.cs_fakes.proofs.mem_tree.open_source.Goals as goal
 
 left_in : (items : List MemEntry) (consumed i : ℕ) (opened : Option ℕ) (s : MemEntry) → opened ≡ Some i →

@@ -2,7 +2,7 @@ use Rattle.std.proofs.Common.{◌+◌, sym, subst}
 use Rattle.cs_search.specs.Buffer.{pending_bytes}
 use Rattle.cs_search.proofs.InputWorkLemmas.{ended_input, rest_input, steps_lose}
 use Rattle.cs_match.specs.Deciding.{Decides}
-use Rattle.cs_search.specs.declared.stop.Stop.TheVariants.{End}
+use Rattle.cs_search.specs.declared.status.Stop.TheVariants.{End}
 use Rattle.cs_search.specs.Progress.{Stops}
 use Rattle.cs_search.proofs.InputReportLemmas.{Reports-listed, Reports-left, Reports-end}
 use Rattle.std.proofs.lemmas.Result.{err_from_is_err_and}

@@ -30,7 +30,7 @@ returns-in_err-program-clause-outputs g c =
 
 pub returns-in_err-program-clause-silent : goal.returns-in_err-program-clause-silent
 returns-in_err-program-clause-silent g c =
-    all_silent _ c.from_residual.result (((Grows-same _, Grows-same _), (refl, refl)), refl, refl)
+    all_silent _ c.from_residual.result (((Grows-same _, Grows-same _), refl, refl), refl, refl)
 
 -- there is no memory for the searcher
 
@@ -43,7 +43,7 @@ returns-in_err-searcher-clause-searches g c =
 
 pub returns-in_err-searcher-clause-silent : goal.returns-in_err-searcher-clause-silent
 returns-in_err-searcher-clause-silent g c =
-    all_silent _ c.from_residual-in_err-searcher.result (((Grows-same _, Grows-same _), (refl, refl)), refl, refl)
+    all_silent _ c.from_residual-in_err-searcher.result (((Grows-same _, Grows-same _), refl, refl), refl, refl)
 
 -- the search fails
 

@@ -1,7 +1,6 @@
 use Rattle.std.proofs.Common.{◌≡◌, ◌<◌, ◌∙◌, length, sym, subst}
 use Rattle.std.specs.Prelude.{All}
-use Rattle.cs_index.specs.Answerable.{AreCandidates}
-use Rattle.cs_index.specs.Candidates.{candidates_of}
+use Rattle.cs_index.specs.Candidates.{candidates_of, AreCandidates}
 use Rattle.cs_search.proofs.SelectionLemmas.{candidates_below, selects}
 use Rattle.cs_search.proofs.selection.selected_names.Goals as goal
 

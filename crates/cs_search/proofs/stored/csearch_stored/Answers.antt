@@ -33,7 +33,7 @@ returns-in-Err-clause-unopened g c = unopened_first Status Status c.args.call.jo
 -- a failed read
 pub returns-in_err-names-clause-unread : goal.returns-in_err-names-clause-unread
 returns-in_err-names-clause-unread g c = any_err c.from_residual.result
-    (accepted_plan c.args.call.job.now c.in-Ok.plan c.in-Ok.ensures.plan, (refl, refl), ((Grows-same _, Grows-same _), (refl, refl)))
+    (accepted_plan c.args.call.job.now c.in-Ok.plan c.in-Ok.ensures.plan, ((Grows-same _, Grows-same _), refl, refl), (refl, refl))
 
 -- ---- a search of the selected names
 

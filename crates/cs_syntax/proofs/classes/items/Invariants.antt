@@ -3,7 +3,7 @@ use Rattle.std.specs.Prelude.{nat_eq, true}
 use Rattle.cs_syntax.specs.Classes.{items_from}
 use Rattle.cs_syntax.specs.ClassState.{HaveItems}
 use Rattle.cs_syntax.proofs.ClassLemmas.{with_items}
-use Rattle.cs_syntax.specs.declared.item.ClassItem.{ClassItem}
+use Rattle.cs_syntax.specs.declared.items.ClassItem.{ClassItem}
 use Rattle.cs_syntax.proofs.classes.items.Given as goal
 
 abbrev pub invariant-items : goal.invariant-items

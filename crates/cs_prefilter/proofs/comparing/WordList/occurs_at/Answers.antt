@@ -2,7 +2,7 @@ use Rattle.std.proofs.Common.{ap, sym, subst, ◌∙◌, ◌↔◌, get_or, bit_
 use Rattle.std.specs.Prelude.{IsTrue}
 use Rattle.std.proofs.lemmas.List.{get_or_default}
 use Rattle.cs_prefilter.specs.declared.word.Word.{Word}
-use Rattle.cs_prefilter.specs.declared.prefix.Prefix.{Prefix}
+use Rattle.cs_prefilter.specs.declared.comparing.Prefix.{Prefix}
 use Rattle.cs_prefilter.specs.WordAt.{WordAt}
 use Rattle.cs_prefilter.specs.Prefixes.{IsPrefixOf}
 use Rattle.cs_prefilter.proofs.comparing.WordList.occurs_at.Goals as goal

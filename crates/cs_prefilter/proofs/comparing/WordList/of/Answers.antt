@@ -1,6 +1,6 @@
 use Rattle.std.proofs.Common.{◌∷◌, [], List, length, get_or, ap, sym, subst, ◌∙◌, arith, length-append}
 use Rattle.std.proofs.lemmas.List.{get_or_default}
-use Rattle.cs_prefilter.specs.declared.prefix.Prefix.{Prefix}
+use Rattle.cs_prefilter.specs.declared.comparing.Prefix.{Prefix}
 use Rattle.cs_prefilter.specs.Prefixes.{IsPrefixOf}
 use Rattle.cs_prefilter.proofs.PrefixLemmas.{prefixes_more}
 use Rattle.cs_prefilter.proofs.comparing.WordList.of.Goals as goal

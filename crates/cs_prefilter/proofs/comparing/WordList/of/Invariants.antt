@@ -1,6 +1,6 @@
 use Rattle.std.proofs.Common.{◌≡◌, ℕ, ◌<◌, length, get_or}
 use Rattle.cs_prefilter.specs.declared.word.Word.{Word}
-use Rattle.cs_prefilter.specs.declared.prefix.Prefix.{Prefix}
+use Rattle.cs_prefilter.specs.declared.comparing.Prefix.{Prefix}
 use Rattle.cs_prefilter.specs.Prefixes.{IsPrefixOf}
 use Rattle.cs_prefilter.proofs.comparing.WordList.of.Given as goal
 

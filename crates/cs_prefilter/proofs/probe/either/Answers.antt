@@ -1,0 +1,6 @@
+use Rattle.std.proofs.Common.{bit_or}
+use Rattle.cs_prefilter.proofs.LaneLemmas.{of_two}
+use Rattle.cs_prefilter.proofs.probe.either.Goals as goal
+
+pub returns : goal.returns
+returns c = of_two bit_or c.args.a c.args.b c.fits-a.0 c.fits-b.0

@@ -1,6 +1,0 @@
-use Rattle.std.proofs.Common.{◌≡◌, ◌++◌, map, drop}
-use Rattle.cs_trigram.proofs.exact_string.prepended.Given as goal
-
-abbrev pub invariant-loop-suffix : goal.invariant-loop-suffix
-invariant-loop-suffix l =
-    l.strings.items ++ map (λ v. l.prefix ++ v) (drop l.suffix-index l.suffixes) ≡ map (λ v. l.prefix ++ v) l.suffixes

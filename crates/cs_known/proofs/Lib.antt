@@ -4,6 +4,6 @@ mod SkippedTextLemmas
 mod LearnedLemmas
 mod UnprintedLemmas
 mod IndexedLemmas
-mod OtherFileLemmas
-mod StateLemmas
+pub mod OtherFileLemmas
+pub mod StateLemmas
 mod SkipLemmas

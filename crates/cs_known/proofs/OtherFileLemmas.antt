@@ -6,15 +6,14 @@ use Rattle.std.proofs.Math.Seq.{take-append_seam, drop-append_seam}
 use Rattle.cs_tree.specs.declared.look.Stamp.{Stamp}
 use Rattle.cs_state.specs.Known.{IsListed, Kept, Known, indexed, binary, apart}
 use Rattle.cs_state.specs.OtherReaders.{IsNextOther, ReadsOthers, known_of}
-use Rattle.cs_state.specs.Others.{kept_of}
-use Rattle.cs_state.specs.declared.others.Unindexed.TheVariants.{Binary}
+use Rattle.cs_state.specs.Others.{other_of}
 use Rattle.cs_state.specs.ProjectStates.{HasNumbers, IsOther}
 use Rattle.cs_state.specs.StateFile.{eight_bytes, kept_byte, other_bytes, stamp_bytes}
 use Rattle.cs_state.proofs.FormLemmas.{eight_same}
 use Rattle.cs_state.proofs.OtherLemmas.{nul_unique, other_len, other_parts, stamp_len}
 use Rattle.cs_state.specs.declared.other_reader.OtherReader.{OtherReader}
 use Rattle.cs_state.specs.declared.others.OtherFile.{OtherFile}
-use Rattle.cs_known.specs.OtherFiles.{HasLeft, IsOneOf, IsReadOf, binary_known}
+use Rattle.cs_known.specs.OtherFiles.{HasLeft, IsOneOf, IsReadOf}
 
 -- ---- the bytes of a stamp are of one stamp
 
@@ -106,10 +105,9 @@ module _ (body : List ℕ) (known : List Known) (reader : OtherReader) where
   next_known old has None next = tt
   next_known old has (Some other) next = by_rest has.rest has.each (flat_map other_bytes has.rest) refl other next
 
--- a binary file that was read, with its name and stamp
-pub binary_listed : (known : List Known) (other : OtherFile) (name : List ℕ) (stamp : Stamp) → IsReadOf known other → other.kept ≡ Binary →
-    other.stamp ≡ stamp → HasNumbers stamp → string_bytes other.name ≡ name → IsListed (binary_known name stamp) known
-binary_listed known other name stamp read kept same fits named =
+-- a file that was read, with its name and stamp
+pub other_listed : (known : List Known) (other : OtherFile) (name : List ℕ) (stamp : Stamp) → IsReadOf known other →
+    other.stamp ≡ stamp → HasNumbers stamp → string_bytes other.name ≡ name → IsListed (other_of name other.kept stamp) known
+other_listed known other name stamp read same fits named =
     let stamped = one_stamp read.one.stamp stamp read.fits fits (read.stamp ∙ ap stamp_bytes same) in
-    let is = read.kept ∙ ap kept_of kept in
-    subst (λ k. IsListed k known) (λ i. record { name = (read.name ∙ named) i; stamp = stamped i; kept = is i }) read.listed
+    subst (λ k. IsListed k known) (λ i. record { name = (read.name ∙ named) i; stamp = stamped i; kept = read.kept i }) read.listed

@@ -1,19 +1,18 @@
 -- A known file that prints nothing is skipped.
-use Rattle.std.proofs.Common.{◌≡◌, ◌∙◌, ℕ, Bool, true, not, List, [], ◌∷◌, ◌++◌, refl, sym, ap, inl, inr, eq-eqb, Some}
+use Rattle.std.proofs.Common.{◌≡◌, ◌∙◌, ℕ, Bool, true, false, not, List, [], ◌∷◌, refl, sym, ap, inl, inr, eq-eqb, Some}
 use Rattle.std.specs.Prelude.{bytes_eq}
 use Rattle.std.specs.List.{list_any}
-use Rattle.std.specs.Str.Pattern.{FindsTextPrefix, StripsPrefix}
 use Rattle.std.proofs.lemmas.Bool.{and_from, or_left, or_right}
 use Rattle.std.proofs.lemmas.Slice.Eq.{bytes_eq-Decides}
 use Rattle.cs_tree.specs.declared.look.Stamp.{Stamp}
 use Rattle.cs_trigram.specs.declared.queries.Query.{Query}
 use Rattle.cs_project.specs.declared.binary.BinaryFiles.{BinaryFiles}
 use Rattle.cs_project.specs.declared.form.ShowOptions.{ShowOptions}
-use Rattle.cs_state.specs.Known.{IsListed, Known, ProjectState, is_same_stamp}
-use Rattle.cs_known.specs.IndexedFiles.{text_known}
-use Rattle.cs_known.specs.KnownFiles.{AreOptions, IsBinary, IsUnmatched}
-use Rattle.cs_known.specs.OtherFiles.{binary_known}
-use Rattle.cs_known.specs.Skipped.{is_silent, is_skipped}
+use Rattle.cs_state.specs.Known.{IsListed, Kept, Known, ProjectState, binary, indexed, is_same_stamp}
+use Rattle.cs_state.specs.Others.{other_of}
+use Rattle.cs_state.specs.declared.others.Unindexed.TheVariants.{Binary}
+use Rattle.cs_known.specs.KnownFiles.{AreOptions, IsText}
+use Rattle.cs_known.specs.Skipped.{is_silent, is_skipped, prints_nothing}
 use Rattle.cs_known.specs.declared.options.SkipOptions.{SkipOptions}
 
 passes : (test : Known → Bool) (one : Known) (known : List Known) → IsListed one known → test one ≡ true → list_any test known ≡ true
@@ -31,18 +30,18 @@ same_name name = (bytes_eq-Decides name name).1 refl
 
 module _ (options : ShowOptions) (binaries : BinaryFiles) (query : Query) (state : ProjectState) (skip : SkipOptions)
     (given : AreOptions options binaries skip) (name : List ℕ) (stamp : Stamp) where
-  pub unmatched_skipped : IsUnmatched skip query state name stamp true → is_skipped options binaries query state name (Some stamp) ≡ true
-  unmatched_skipped is =
-      let parts = is refl in
-      passes (is_silent options binaries query state name (Some stamp)) (text_known name stamp) state.known parts.1
-      (and_from _ _ (and_from _ _ (same_name name) (same_stamp stamp))
-      (and_from _ _ (ap not (sym given.unmatched ∙ parts.0)) (ap not parts.2)))
+  -- a known file that prints nothing is skipped
+  known_skipped : (kept : Kept) → IsListed (record { name = name; stamp = stamp; kept = kept }) state.known →
+      prints_nothing options binaries query state name kept ≡ true → is_skipped options binaries query state name (Some stamp) ≡ true
+  known_skipped kept listed none =
+      passes (is_silent options binaries query state name (Some stamp)) (record { name = name; stamp = stamp; kept = kept }) state.known listed
+      (and_from _ _ (and_from _ _ (same_name name) (same_stamp stamp)) none)
 
-  pub binary_skipped : IsBinary skip state name stamp true → is_skipped options binaries query state name (Some stamp) ≡ true
-  binary_skipped is =
-      let parts = is refl in
-      passes (is_silent options binaries query state name (Some stamp)) (binary_known name stamp) state.known parts.1
-      (and_from _ _ (and_from _ _ (same_name name) (same_stamp stamp)) (sym given.binary ∙ parts.0))
+  pub text_skipped : IsText query state name stamp false → skip.prints_unmatched ≡ false →
+      is_skipped options binaries query state name (Some stamp) ≡ true
+  text_skipped text plain =
+      known_skipped indexed text.0 (and_from _ _ (ap not (sym given.unmatched ∙ plain)) (ap not (text.1 refl)))
 
-pub stripped : (path root name : List ℕ) → StripsPrefix (FindsTextPrefix root) path name → path ≡ root ++ name
-stripped path root name strips = strips.1.1 ∙ ap (λ r. root ++ r) (sym strips.2)
+  pub binary_skipped : IsListed (other_of name Binary stamp) state.known → skip.leaves_out_binary ≡ true →
+      is_skipped options binaries query state name (Some stamp) ≡ true
+  binary_skipped listed leaves = known_skipped binary listed (sym given.binary ∙ leaves)

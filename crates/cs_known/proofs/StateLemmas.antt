@@ -41,7 +41,7 @@ before_listed : (one : Known) (before others : List Known) → IsListed one othe
 before_listed one [] others is = is
 before_listed one (other ∷ before) others is = inr (before_listed one before others is)
 
-text_listed : (names : List (List ℕ)) (stamps : List Stamp) (others : List Known) (id : ℕ) (name : List ℕ) (stamp : Stamp) →
+pub text_listed : (names : List (List ℕ)) (stamps : List Stamp) (others : List Known) (id : ℕ) (name : List ℕ) (stamp : Stamp) →
     slice_get names id ≡ Some name → slice_get stamps id ≡ Some stamp → IsListed (text_known name stamp) (indexed_files names stamps ++ others)
 text_listed [] stamps others id name stamp at of = cc
 text_listed (n ∷ names) [] others id name stamp at of = cc
@@ -67,7 +67,7 @@ all_one_of known before (other ∷ others) is fit each =
 
 -- ---- stamps
 
-stamp_there : (stamps : List Stamp) (rest : List ℕ) (id : ℕ) (stamp : Stamp) → slice_get stamps id ≡ Some stamp →
+pub stamp_there : (stamps : List Stamp) (rest : List ℕ) (id : ℕ) (stamp : Stamp) → slice_get stamps id ≡ Some stamp →
     part_of (flat_map stamp_bytes stamps ++ rest) (40 * id) 40 ≡ stamp_bytes stamp
 stamp_there [] rest id stamp at = cc
 stamp_there (s ∷ stamps) rest zero stamp at =

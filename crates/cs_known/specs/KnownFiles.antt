@@ -4,11 +4,15 @@ use Rattle.cs_tree.specs.declared.look.Stamp.{Stamp}
 use Rattle.cs_trigram.specs.declared.queries.Query.{Query}
 use Rattle.cs_project.specs.declared.binary.BinaryFiles.{BinaryFiles}
 use Rattle.cs_project.specs.declared.form.ShowOptions.{ShowOptions}
-use Rattle.cs_state.specs.Known.{IsListed, ProjectState}
+use Rattle.cs_state.specs.Known.{IsListed, Kept, ProjectState}
+use Rattle.cs_state.specs.Others.{other_of}
+use Rattle.cs_state.specs.declared.others.Unindexed.{Unindexed}
 use Rattle.cs_known.specs.IndexedFiles.{ReadsIndexed, text_known}
-use Rattle.cs_known.specs.OtherFiles.{ReadsOtherFiles, binary_known}
-use Rattle.cs_known.specs.Skipped.{is_candidate, leaves_out, prints_unmatched}
+use Rattle.cs_known.specs.OtherFiles.{ReadsOtherFiles}
+use Rattle.cs_known.specs.Skipped.{is_candidate, is_skipped, leaves_out, prints_unmatched}
 use Rattle.cs_known.specs.declared.known_files.KnownFiles.{KnownFiles}
+use Rattle.cs_known.specs.declared.lookup.FileLookup.{FileLookup}
+use Rattle.cs_known.specs.declared.lookup.FileLookup.TheVariants.{Known, Skipped, Unknown}
 use Rattle.cs_known.specs.declared.options.SkipOptions.{SkipOptions}
 
 -- The options by which files are skipped are those of the search.
@@ -31,16 +35,27 @@ abbrev pub KeepsKnown : {I B : Type 0} → (I → Option (List ℕ)) → (B → 
 KeepsKnown index_model body_model old new = (query : Query) (state : ProjectState) →
     Knows index_model body_model query state old → Knows index_model body_model query state new
 
--- where the answer is true, a text of the index that is no candidate has the name and stamp, and prints nothing
-abbrev pub IsUnmatched : SkipOptions → Query → ProjectState → List ℕ → Stamp → Bool → Type 0
-IsUnmatched skip query state name stamp answer = answer ≡ true → (skip.prints_unmatched ≡ false)
-    × IsListed (text_known name stamp) state.known × (is_candidate query state.parts name ≡ false)
+-- ---- lookups
 
--- where the answer is true, a binary file has the name and stamp, and prints nothing
-abbrev pub IsBinary : SkipOptions → ProjectState → List ℕ → Stamp → Bool → Type 0
-IsBinary skip state name stamp answer =
-    answer ≡ true → (skip.leaves_out_binary ≡ true) × IsListed (binary_known name stamp) state.known
+-- a text of the index has the name and stamp, and is a candidate if its trigrams match the query
+abbrev pub IsText : Query → ProjectState → List ℕ → Stamp → Bool → Type 0
+IsText query state name stamp candidate = IsListed (text_known name stamp) state.known
+    × (candidate ≡ false → is_candidate query state.parts name ≡ false)
 
--- the folder and the options stay
-abbrev pub KeepsGiven : {I B : Type 0} → KnownFiles I B → KnownFiles I B → Type 0
-KeepsGiven old new = (new.root ≡ old.root) × (new.options ≡ old.options)
+-- A file that is skipped is known, by its name and stamp, to print nothing; one that is known is one of the state.
+abbrev pub IsFound : ShowOptions → BinaryFiles → Query → ProjectState → List ℕ → Stamp → FileLookup → Type 0
+IsFound options binaries query state name stamp Skipped = is_skipped options binaries query state name (Some stamp) ≡ true
+IsFound options binaries query state name stamp Known =
+    (kept : Kept) × IsListed (record { name = name; stamp = stamp; kept = kept }) state.known
+IsFound options binaries query state name stamp Unknown = Unit {0}
+
+-- the lookup of each text of an index, and of each other file, in a search with these options
+abbrev pub LooksUpTexts : SkipOptions → Bool → FileLookup → Type 0
+LooksUpTexts skip candidate lookup = (options : ShowOptions) (binaries : BinaryFiles) (query : Query) (state : ProjectState) →
+    AreOptions options binaries skip → (name : List ℕ) (stamp : Stamp) → IsText query state name stamp candidate →
+    IsFound options binaries query state name stamp lookup
+
+abbrev pub LooksUpOthers : SkipOptions → Unindexed → FileLookup → Type 0
+LooksUpOthers skip kept lookup = (options : ShowOptions) (binaries : BinaryFiles) (query : Query) (state : ProjectState) →
+    AreOptions options binaries skip → (name : List ℕ) (stamp : Stamp) → IsListed (other_of name kept stamp) state.known →
+    IsFound options binaries query state name stamp lookup

@@ -1,8 +1,7 @@
 -- The other files of a state, as far as they are read.
 use Rattle.std.specs.Prelude.{◌≡◌, ℕ, List, IfSome, flat_map, string_bytes}
 use Rattle.std.specs.List.{AllByRecursion}
-use Rattle.cs_tree.specs.declared.look.Stamp.{Stamp}
-use Rattle.cs_state.specs.Known.{IsListed, Known, binary}
+use Rattle.cs_state.specs.Known.{IsListed, Known}
 use Rattle.cs_state.specs.OtherReaders.{ReadsOthers}
 use Rattle.cs_state.specs.Others.{kept_of}
 use Rattle.cs_state.specs.ProjectStates.{HasNumbers, IsOther}
@@ -10,10 +9,6 @@ use Rattle.cs_state.specs.StateFile.{other_bytes, stamp_bytes}
 use Rattle.cs_state.specs.declared.other_reader.OtherReader.{OtherReader}
 use Rattle.cs_state.specs.declared.others.OtherFile.{OtherFile}
 use Rattle.cs_known.specs.declared.others.OtherFiles.{OtherFiles}
-
--- a binary file with this name and stamp
-abbrev pub binary_known : List ℕ → Stamp → Known
-binary_known name stamp = record { name = name; stamp = stamp; kept = binary }
 
 -- a file that is not in the index, and is one of these
 abbrev pub IsOneOf : List Known → Known → Type 0

@@ -14,8 +14,6 @@ pub type StoredFiles<S> = KnownFiles<FirstBytes<SummedBytes<S>>, SummedBytes<S>>
 #[derive(Drop)]
 pub struct KnownFiles<I, B> {
     pub(crate) alloc: Global,
-    /// The folder of the project, whose path precedes each name. It is empty for `/`.
-    pub(crate) root: String,
     pub(crate) options: SkipOptions,
     /// The bytes of the index.
     pub(crate) index: I,

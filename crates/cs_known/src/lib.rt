@@ -11,7 +11,8 @@
 //! of a walk one after another. The names of the index, their stamps, and the other files are read
 //! as the names that are asked for ascend, each once, through windows; the ids of the candidates
 //! are in memory. A name that is asked for later than a greater one, or that the state has out of
-//! order, may be missed: such a file is read. So is each later file after a read that fails.
+//! order, may be missed: such a file counts as unknown, and is read. So is each later file after a
+//! read that fails.
 //!
 //! Read `specs/Skipped.antt` first (which files are skipped), then `specs/Learned.antt` (what a
 //! state knows, and the premises), `specs/Unprinted.antt` (what is skipped prints nothing) and
@@ -21,13 +22,17 @@
 mod indexed;
 mod known_files;
 pub mod laws;
+mod lookup;
 mod options;
 mod others;
+mod seen;
 mod skipping;
 mod stamps;
 
 pub use known_files::{KnownFiles, StoredFiles};
+pub use lookup::FileLookup;
 pub use options::SkipOptions;
+pub use seen::SeenFile;
 
 #[cfg(test)]
 mod tests;

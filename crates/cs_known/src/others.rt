@@ -1,7 +1,8 @@
 // The other files of a state, one after another.
 ghost use Rattle.std.specs.Prelude.{◌≡◌, ℕ, List, Some, true, IfOk, IfSome, IsSome};
 ghost use Rattle.cs_state.specs.Known.{IsListed, Known};
-ghost use Rattle.cs_known.specs.OtherFiles.{HasLeft, IsReadOf, ReadsOtherFiles, binary_known};
+ghost use Rattle.cs_state.specs.Others.{other_of};
+ghost use Rattle.cs_known.specs.OtherFiles.{HasLeft, IsReadOf, ReadsOtherFiles};
 
 use crate::stamps::is_same;
 use cs_state::{OtherFile, OtherReader, Unindexed};
@@ -17,18 +18,18 @@ pub(crate) struct OtherFiles {
 }
 
 impl OtherFiles {
-    /// Passes the names before the first that is not less. Returns whether that is this name, of a
-    /// binary file with this stamp.
-    pub(crate) fn has_binary<S: Store>(
+    /// Passes the names before the first that is not less. Returns what that file is, if it has
+    /// this name and stamp.
+    pub(crate) fn find<S: Store>(
         &mut self,
         alloc: Global,
         store: &mut S,
         name: &str,
         stamp: &Stamp,
-    ) -> Result<bool, AllocError>
+    ) -> Result<Option<Unindexed>, AllocError>
         ensures known { (body : List ℕ) (known : List Known) → S.model store.old ≡ Some body →
-            ReadsOtherFiles body known self.old →
-            IfOk result (λ answer. answer ≡ true → IsListed (binary_known name.now stamp.now) known) }
+            ReadsOtherFiles body known self.old → IfOk result (λ found. IfSome found
+            (λ kept. IsListed (other_of name.now kept stamp.now) known)) }
         ensures reads { (body : List ℕ) (known : List Known) → S.model store.old ≡ Some body →
             ReadsOtherFiles body known self.old → ReadsOtherFiles body known self.new }
         ensures store { S.model store.new ≡ S.model store.old }
@@ -39,7 +40,7 @@ impl OtherFiles {
             }
             self.read_next(alloc, store)?;
         }
-        Ok(self.is_binary(name, stamp))
+        Ok(self.kept_as(name, stamp))
     }
 
     /// Whether the next file is before this name.
@@ -52,18 +53,18 @@ impl OtherFiles {
         }
     }
 
-    /// Whether the next file is a binary one with this name and stamp.
-    fn is_binary(&self, name: &str, stamp: &Stamp) -> bool
-        ensures { (known : List Known) → IfSome self.now.next (IsReadOf known) → result ≡ true →
-            IsListed (binary_known name.now stamp.now) known }
+    /// What the next file is, if it has this name and stamp.
+    fn kept_as(&self, name: &str, stamp: &Stamp) -> Option<Unindexed>
+        ensures { (known : List Known) → IfSome self.now.next (IsReadOf known) → IfSome result
+            (λ kept. IsListed (other_of name.now kept stamp.now) known) }
     {
         let Some(other) = &self.next else {
-            return false;
+            return None;
         };
-        match other.kept {
-            Unindexed::Binary => is_same(&other.stamp, stamp) && other.name.as_str() == name,
-            Unindexed::Apart => false,
+        if is_same(&other.stamp, stamp) && other.name.as_str() == name {
+            return Some(other.kept);
         }
+        None
     }
 
     /// Goes to the file after the next one.

@@ -1,30 +1,30 @@
 // Which files a search skips.
-ghost use Rattle.std.specs.Prelude.{◌≡◌, ℕ, Bool, List, Some, true, false, IfOk, IfSome, string_bytes};
+ghost use Rattle.std.specs.Prelude.{◌≡◌, ℕ, List, Some, IfOk, IfSome};
 ghost use Rattle.cs_trigram.specs.declared.queries.Query.{Query};
 ghost use Rattle.cs_project.specs.declared.binary.BinaryFiles.{BinaryFiles};
 ghost use Rattle.cs_project.specs.declared.form.ShowOptions.{ShowOptions};
-ghost use Rattle.cs_state.specs.Known.{ProjectState};
+ghost use Rattle.cs_state.specs.Known.{IsListed, ProjectState};
 ghost use Rattle.cs_state.specs.OpenedStates.{HasIndex};
+ghost use Rattle.cs_state.specs.Others.{other_of};
 ghost use Rattle.cs_state.specs.ProjectStates.{IsState};
 ghost use Rattle.cs_state.specs.StateLengths.{AreWithin};
-ghost use Rattle.cs_known.specs.KnownFiles.{AreOptions, IsBinary, IsUnmatched, KeepsGiven, KeepsKnown, Knows};
-ghost use Rattle.cs_known.specs.Unprinted.{IsSkippedBelow};
+ghost use Rattle.cs_known.specs.KnownFiles.{AreOptions, IsFound, IsText, KeepsKnown, Knows};
 
 use crate::indexed::IndexedFiles;
 use crate::known_files::{KnownFiles, StoredFiles};
+use crate::lookup::FileLookup;
 use crate::options::SkipOptions;
 use crate::others::OtherFiles;
-use cs_state::{FirstBytes, OtherReader, StampReader, StateFile, SummedBytes};
+use cs_state::{FirstBytes, OtherReader, StampReader, StateFile, SummedBytes, Unindexed};
 use cs_tree::{IoFault, Stamp, Store};
 use cs_trigram::Query;
 use std::alloc::{AllocError, Global};
 
 impl<S: Store + Drop> StoredFiles<S> {
-    /// The files that an open state knows, below a folder. `file` is the same file again. None if a
-    /// posting list that the query requires is damaged, or if a read of one fails.
+    /// The files that an open state knows. `file` is the same file again. None if a posting list
+    /// that the query requires is damaged, or if a read of one fails.
     pub fn open(
         alloc: Global,
-        root: String,
         options: SkipOptions,
         query: &Query,
         state: StateFile<S>,
@@ -36,8 +36,7 @@ impl<S: Store + Drop> StoredFiles<S> {
             state.lengths state.index → IsState bytes known → IfOk result (λ found. IfSome found
             (Knows ⟦<FirstBytes<SummedBytes<S>> as Store>⟧.model ⟦<SummedBytes<S> as Store>⟧.model
             query.now known)) }
-        ensures given { IfOk result (λ found. IfSome found
-            (λ files. (files.root ≡ root) × (files.options ≡ options))) }
+        ensures options { IfOk result (λ found. IfSome found (λ files. files.options ≡ options)) }
     {
         let StateFile {
             lengths,
@@ -66,7 +65,6 @@ impl<S: Store + Drop> StoredFiles<S> {
         others.read_next(alloc, &mut body)?;
         Ok(Some(KnownFiles {
             alloc,
-            root,
             options,
             index: bytes,
             body,
@@ -77,71 +75,68 @@ impl<S: Store + Drop> StoredFiles<S> {
 }
 
 impl<I: Store, B: Store> KnownFiles<I, B> {
-    /// Whether the file at a path is skipped, by its stamp. A path outside the folder is not.
-    pub fn skips(&mut self, path: &str, stamp: Option<Stamp>) -> Result<bool, AllocError>
-        ensures skipped { (options : ShowOptions) (binaries : BinaryFiles) (query : Query)
+    /// The number of texts that are known.
+    pub fn text_count(&self) -> u32 {
+        self.indexed.count
+    }
+
+    /// What is known of the file with a name, by its stamp.
+    pub fn find(&mut self, name: &str, stamp: &Stamp) -> Result<FileLookup, AllocError>
+        ensures found { (options : ShowOptions) (binaries : BinaryFiles) (query : Query)
             (state : ProjectState) → AreOptions options binaries self.old.options →
-            Knows I.model B.model query state self.old → IfOk result (λ answer. answer ≡ true →
-            IsSkippedBelow (string_bytes self.old.root) options binaries query state path.now stamp) }
-        ensures knows { KeepsKnown I.model B.model self.old self.new }
-        ensures given { KeepsGiven self.old self.new }
-    {
-        let Some(stamp) = stamp else {
-            return Ok(false);
-        };
-        let Some(name) = path.strip_prefix(self.root.as_str()) else {
-            return Ok(false);
-        };
-        Ok(self.has_unmatched(name, &stamp)? || self.has_binary(name, &stamp)?)
-    }
-
-    /// Whether a text of the index has this name and stamp, and prints nothing, since it is no
-    /// candidate.
-    fn has_unmatched(&mut self, name: &str, stamp: &Stamp) -> Result<bool, AllocError>
-        ensures unmatched { (query : Query) (state : ProjectState) →
             Knows I.model B.model query state self.old →
-            IfOk result (IsUnmatched self.old.options query state name.now stamp.now) }
+            IfOk result (IsFound options binaries query state name.now stamp.now) }
         ensures knows { KeepsKnown I.model B.model self.old self.new }
-        ensures given { KeepsGiven self.old self.new }
+        ensures options { self.new.options ≡ self.old.options }
     {
-        if self.options.prints_unmatched {
-            return Ok(false);
+        if let Some(is_candidate) = self.find_text(name, stamp)? {
+            return Ok(self.options.of_text(is_candidate));
         }
-        match self.find_unmatched(name, stamp) {
-            Ok(answer) => Ok(answer),
-            Err(IoFault::Memory) => Err(AllocError),
-            Err(IoFault::Failed) => Ok(false),
+        match self.find_other(name, stamp)? {
+            Some(kept) => Ok(self.options.of_other(kept)),
+            None => Ok(FileLookup::Unknown),
         }
     }
 
-    /// Whether a text of the index that is no candidate has this name and stamp.
-    fn find_unmatched(&mut self, name: &str, stamp: &Stamp) -> Result<bool, IoFault>
-        ensures unmatched { (query : Query) (state : ProjectState) →
-            Knows I.model B.model query state self.old → self.old.options.prints_unmatched ≡ false →
-            IfOk result (IsUnmatched self.old.options query state name.now stamp.now) }
+    /// Whether the text of the index with this name and stamp is a candidate. None if there is no
+    /// such text, or if a read fails.
+    fn find_text(&mut self, name: &str, stamp: &Stamp) -> Result<Option<bool>, AllocError>
+        ensures text { (query : Query) (state : ProjectState) → Knows I.model B.model query state self.old →
+            IfOk result (λ found. IfSome found (IsText query state name.now stamp.now)) }
         ensures knows { KeepsKnown I.model B.model self.old self.new }
-        ensures given { KeepsGiven self.old self.new }
+        ensures options { self.new.options ≡ self.old.options }
+    {
+        match self.read_text(name, stamp) {
+            Ok(found) => Ok(found),
+            Err(IoFault::Memory) => Err(AllocError),
+            Err(IoFault::Failed) => Ok(None),
+        }
+    }
+
+    /// The same, with the error of a read.
+    fn read_text(&mut self, name: &str, stamp: &Stamp) -> Result<Option<bool>, IoFault>
+        ensures text { (query : Query) (state : ProjectState) → Knows I.model B.model query state self.old →
+            IfOk result (λ found. IfSome found (IsText query state name.now stamp.now)) }
+        ensures knows { KeepsKnown I.model B.model self.old self.new }
+        ensures options { self.new.options ≡ self.old.options }
     {
         if !self.indexed.reach(self.alloc, &mut self.index, name)? {
-            return Ok(false);
+            return Ok(None);
         }
         if !self.indexed.has_stamp(self.alloc, &mut self.body, stamp)? {
-            return Ok(false);
+            return Ok(None);
         }
-        Ok(!self.indexed.is_candidate())
+        Ok(Some(self.indexed.is_candidate()))
     }
 
-    /// Whether a binary file has this name and stamp, and prints nothing.
-    fn has_binary(&mut self, name: &str, stamp: &Stamp) -> Result<bool, AllocError>
-        ensures binary { (query : Query) (state : ProjectState) → Knows I.model B.model query state self.old →
-            IfOk result (IsBinary self.old.options state name.now stamp.now) }
+    /// What the other file with this name and stamp is.
+    fn find_other(&mut self, name: &str, stamp: &Stamp) -> Result<Option<Unindexed>, AllocError>
+        ensures other { (query : Query) (state : ProjectState) → Knows I.model B.model query state self.old →
+            IfOk result (λ found. IfSome found
+            (λ kept. IsListed (other_of name.now kept stamp.now) state.known)) }
         ensures knows { KeepsKnown I.model B.model self.old self.new }
-        ensures given { KeepsGiven self.old self.new }
+        ensures options { self.new.options ≡ self.old.options }
     {
-        if !self.options.leaves_out_binary {
-            return Ok(false);
-        }
-        self.others
-            .has_binary(self.alloc, &mut self.body, name, stamp)
+        self.others.find(self.alloc, &mut self.body, name, stamp)
     }
 }

@@ -1,5 +1,5 @@
 // A state that is written, opened, and asked for the files of a walk.
-use crate::{SkipOptions, StoredFiles};
+use crate::{FileLookup, SkipOptions, StoredFiles};
 use cs_index::Builder;
 use cs_output::Output;
 use cs_state::{StateFile, StateWriter, SummedOutput, Unindexed};
@@ -39,7 +39,7 @@ fn state(alloc: Global) -> Result<Vec<u8>, Fail> {
     Ok(writer.finish()?)
 }
 
-/// The files of these bytes that a search in `/p` knows.
+/// The files of these bytes that a search knows.
 fn files_of<'b>(
     alloc: Global,
     bytes: &'b [u8],
@@ -49,9 +49,8 @@ fn files_of<'b>(
     let Some(file) = StateFile::open(alloc, MemStore::new(bytes, 1 << 16))? else {
         return Ok(None);
     };
-    let root = String::from_str(alloc, "/p")?;
     let store = MemStore::new(bytes, 1 << 16);
-    Ok(StoredFiles::open(alloc, root, options, query, file, store)?)
+    Ok(StoredFiles::open(alloc, options, query, file, store)?)
 }
 
 const PLAIN: SkipOptions = SkipOptions {
@@ -69,15 +68,56 @@ const AS_TEXT: SkipOptions = SkipOptions {
     leaves_out_binary: false,
 };
 
-/// The walk of a project: each path, with the inode of its stamp, and whether a search for `abc`
-/// skips it, plainly, with `-v` and with `-a`.
-const WALK: &[(&str, u64, [bool; 3])] = &[
-    ("/o/a", 1, [false, false, false]),
-    ("/p/a", 1, [true, false, true]),
-    ("/p/b", 2, [true, true, false]),
-    ("/p/b/c", 3, [false, false, false]),
-    ("/p/d", 4, [false, false, false]),
-    ("/p/e", 1, [false, false, false]),
+/// The walk of a project: each name, with the inode of its stamp, and the lookup in a search for
+/// `abc`, plainly, with `-v` and with `-a`.
+const WALK: &[(&str, u64, [FileLookup; 3])] = &[
+    (
+        "/0",
+        1,
+        [
+            FileLookup::Unknown,
+            FileLookup::Unknown,
+            FileLookup::Unknown,
+        ],
+    ),
+    (
+        "/a",
+        1,
+        [FileLookup::Skipped, FileLookup::Known, FileLookup::Skipped],
+    ),
+    (
+        "/b",
+        2,
+        [FileLookup::Skipped, FileLookup::Skipped, FileLookup::Known],
+    ),
+    (
+        "/b/c",
+        3,
+        [FileLookup::Known, FileLookup::Known, FileLookup::Known],
+    ),
+    (
+        "/d",
+        4,
+        [FileLookup::Known, FileLookup::Known, FileLookup::Known],
+    ),
+    (
+        "/d",
+        1,
+        [
+            FileLookup::Unknown,
+            FileLookup::Unknown,
+            FileLookup::Unknown,
+        ],
+    ),
+    (
+        "/e",
+        1,
+        [
+            FileLookup::Unknown,
+            FileLookup::Unknown,
+            FileLookup::Unknown,
+        ],
+    ),
 ];
 
 #[test]
@@ -88,9 +128,9 @@ fn files_of_a_walk(rt: HostRuntime) -> Result<(), Fail> {
         let Some(mut files) = files_of(alloc, &bytes, *options, &Query::Tri(ABC))? else {
             return Err(Fail::new("no state"));
         };
-        for (path, inode, want) in WALK {
-            let skipped = files.skips(path, Some(stamp(*inode)))?;
-            assert_eq!(rt; skipped, want[column], "{path} {column}");
+        for (name, inode, want) in WALK {
+            let found = files.find(name, &stamp(*inode))?;
+            assert_eq!(rt; found, want[column], "{name} {column}");
         }
     }
     Ok(())

@@ -1,4 +1,4 @@
 mod Examples
 mod FreshLemmas
 mod KnownProjectLemmas
-mod UpdateLemmas
+mod StateKnowledgeLemmas

@@ -1,4 +1,4 @@
 -- Definitions that public contracts cite.
 pub mod Fresh
-pub mod Updates
 pub mod KnownProjects
+pub mod ClosedStates

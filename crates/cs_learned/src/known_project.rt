@@ -1,23 +1,97 @@
 // What a state knows of a project, as the knowledge of a search.
-ghost use Rattle.cs_learned.specs.KnownProjects.{IsKnownFor};
+ghost use Rattle.std.specs.Prelude.{◌≡◌, IfOk, string_bytes};
+ghost use Rattle.cs_fresh.specs.Knowledge.{SkipsNothingShown};
+ghost use Rattle.cs_learned.specs.KnownProjects.{IsFoundIn, IsKnownFor, KeepsFiles};
 
-use cs_fresh::Knowledge;
-use cs_known::KnownFiles;
 use cs_known::laws::a_skipped_path_prints_nothing;
+use cs_known::{FileLookup, KnownFiles, SeenFile};
 use cs_tree::{Stamp, Store};
-use std::alloc::AllocError;
+use std::alloc::{AllocError, Global};
 
-/// The files that an open state knows, for a search that skips those that print nothing.
+/// The files that an open state knows, for a search that skips those that print nothing, and notes
+/// those that are unknown.
 #[derive(Drop)]
-pub struct KnownProject<I, B> {
-    pub files: KnownFiles<I, B>,
+pub(crate) struct KnownProject<I, B> {
+    pub(crate) alloc: Global,
+    /// The folder of the project, whose path precedes each name. It is empty for `/`.
+    pub(crate) root: String,
+    /// None if there is no state.
+    pub(crate) files: Option<KnownFiles<I, B>>,
+    /// The files below the folder that have a stamp and that the state does not know.
+    pub(crate) unknown: Vec<SeenFile>,
 }
 
-impl<I: Store, B: Store> Knowledge for KnownProject<I, B> {
-    ghost Holds = { λ known tree. IsKnownFor I.model B.model known.files tree };
+impl<I, B> KnownProject<I, B> {
+    /// Nothing is noted yet.
+    pub(crate) fn new(
+        alloc: Global,
+        root: String,
+        files: Option<KnownFiles<I, B>>,
+    ) -> KnownProject<I, B>
+        ensures root { result.root ≡ root }
+        ensures files { result.files ≡ files }
+    {
+        KnownProject {
+            alloc,
+            root,
+            files,
+            unknown: Vec::new(alloc),
+        }
+    }
 
-    fn skips(&mut self, path: &str, stamp: Option<Stamp>) -> Result<bool, AllocError> {
+    /// Notes a file, unless its name does not ascend, as below a folder that is searched twice.
+    fn note(&mut self, name: &str, stamp: Stamp) -> Result<(), AllocError>
+        ensures files { self.new.files ≡ self.old.files }
+        ensures root { self.new.root ≡ self.old.root }
+    {
+        if let Some(last) = self.unknown.last() {
+            if last.name.as_str() >= name {
+                return Ok(());
+            }
+        }
+        let name = String::from_str(self.alloc, name)?;
+        self.unknown.push(SeenFile { name, stamp })?;
+        Ok(())
+    }
+}
+
+impl<I: Store, B: Store> KnownProject<I, B> {
+    /// What is known of the file with a name, by its stamp.
+    fn find(&mut self, name: &str, stamp: &Stamp) -> Result<FileLookup, AllocError>
+        ensures found { IfOk result (IsFoundIn I.model B.model self.old.files name.now stamp.now) }
+        ensures keeps { KeepsFiles I.model B.model self.old.files self.new.files }
+        ensures root { self.new.root ≡ self.old.root }
+    {
+        match &mut self.files {
+            Some(files) => files.find(name, stamp),
+            None => Ok(FileLookup::Unknown),
+        }
+    }
+}
+
+impl<I: Store, B: Store> KnownProject<I, B> {
+    /// Whether the file at a path is skipped, since nothing is printed for it. One that is unknown
+    /// is noted.
+    pub(crate) fn skips(&mut self, path: &str, stamp: Option<Stamp>) -> Result<bool, AllocError>
+        ensures skips { IfOk result (SkipsNothingShown
+            (IsKnownFor I.model B.model (string_bytes self.old.root) self.old.files) path.now stamp) }
+        ensures keeps { KeepsFiles I.model B.model self.old.files self.new.files }
+        ensures root { self.new.root ≡ self.old.root }
+    {
         a_skipped_path_prints_nothing();
-        self.files.skips(path, stamp)
+        let Some(stamp) = stamp else {
+            return Ok(false);
+        };
+        let Some(name) = path.strip_prefix(self.root.as_str()) else {
+            return Ok(false);
+        };
+        match self.find(name, &stamp)? {
+            FileLookup::Skipped => Ok(true),
+            FileLookup::Known => Ok(false),
+            FileLookup::Unknown => {
+                self.note(name, stamp)?;
+                Ok(false)
+            }
+        }
     }
 }

@@ -8,7 +8,7 @@ use Rattle.cs_trigram.specs.Scans.{IsScanOf, ScanOutcome, scan_outcome_of, skipp
 use Rattle.cs_trigram.specs.Scans as scans
 use Rattle.cs_trigram.specs.Text.{limits, skip, text_trigrams}
 use Rattle.cs_trigram.specs.Trigram.{tri}
-use Rattle.cs_trigram.specs.declared.limits.Limits.{Limits}
+use Rattle.cs_trigram.specs.declared.scan.Limits.{Limits}
 use Rattle.cs_trigram.specs.declared.scan.Reason.{Reason}
 use Rattle.cs_trigram.specs.declared.scan.Scan.TheVariants as scan
 use Rattle.cs_project.specs.Shown.{is_binary}

@@ -19,7 +19,7 @@ use Rattle.cs_state.specs.declared.others.Unindexed.{Unindexed}
 use Rattle.cs_update.specs.Contents.{text, unindexed}
 use Rattle.cs_update.specs.Learning.{HasLearned, IsProjectName, LearnedFile, Seen, all_learned, entry_in, learned_as, learned_if_old, other_files, other_in, stamp_in, text_entries, text_stamps, seen_of}
 use Rattle.cs_update.specs.declared.learned.Learned.{Learned}
-use Rattle.cs_update.specs.declared.seen.SeenFile.{SeenFile}
+use Rattle.cs_known.specs.declared.seen.SeenFile.{SeenFile}
 
 abbrev file_entry : LearnedFile → Option Entry
 file_entry file = entry_in file.name file.content

@@ -1,3 +1,12 @@
+mod AnewLemmas
+mod FirstLemmas
 mod FoundLemmas
 mod LearningLemmas
+mod MergedLemmas
+mod OldLemmas
 mod SourceLemmas
+mod StampLemmas
+mod StateLemmas
+mod TextLemmas
+mod UpdateLemmas
+mod WritingLemmas

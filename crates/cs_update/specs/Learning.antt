@@ -9,7 +9,7 @@ use Rattle.cs_state.specs.Known.{Known, is_old}
 use Rattle.cs_state.specs.Others.{other_of}
 use Rattle.cs_state.specs.OtherReaders.{known_of}
 use Rattle.cs_update.specs.Contents.{Content, text, unindexed, item_content}
-use Rattle.cs_update.specs.declared.seen.SeenFile.{SeenFile}
+use Rattle.cs_known.specs.declared.seen.SeenFile.{SeenFile}
 use Rattle.cs_update.specs.declared.learned.Learned.{Learned}
 
 -- ---- files that are seen

@@ -1,5 +1,11 @@
 -- Definitions that public contracts cite.
 pub mod Contents
 pub mod Learning
+pub mod Updates
+pub mod Updating
+pub mod OldTexts
 -- Definitions that private contracts cite.
 pub mod Reads
+pub mod NewStates
+pub mod MergedLists
+pub mod Written

@@ -1,5 +1,5 @@
-// What a run learns.
-use crate::seen::SeenFile;
+// The files that a run is to learn.
+use cs_known::SeenFile;
 use std::alloc::Global;
 
 /// Files below a root, and the moment of the run.

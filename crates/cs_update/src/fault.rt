@@ -2,6 +2,7 @@
 ghost use Rattle.std.specs.Prelude.{◌≡◌};
 ghost use Rattle.cs_update.specs.declared.fault.UpdateFault.TheVariants.{Memory};
 
+use cs_tree::IoFault;
 use std::alloc::{AllocError, AllocFailed};
 use thiserror::Error;
 
@@ -12,7 +13,10 @@ pub enum UpdateFault {
     /// or the paths are not those of an index.
     #[error("bad name")]
     BadName,
-    /// There are more texts than an index can have.
+    /// The old state cannot be read, or is damaged: it counts as none.
+    #[error("bad state")]
+    BadState,
+    /// There are more texts than an index can have, or the state would have 2^32 bytes.
     #[error("too large")]
     TooLarge,
     /// An allocation failed.
@@ -33,5 +37,15 @@ impl<T: Drop> From<AllocFailed<T>> for UpdateFault {
 
     fn from(_refused: AllocFailed<T>) -> UpdateFault {
         UpdateFault::Memory
+    }
+}
+
+/// A failed read of the old state.
+impl From<IoFault> for UpdateFault {
+    fn from(fault: IoFault) -> UpdateFault {
+        match fault {
+            IoFault::Failed => UpdateFault::BadState,
+            IoFault::Memory => UpdateFault::Memory,
+        }
     }
 }

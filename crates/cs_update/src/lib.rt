@@ -1,28 +1,46 @@
-//! What a run learns of the files of a project, for the state of the project. No tool calls it yet.
+//! What a run learns of the files of a project, and the first state that it leaves.
 //!
-//! Read `specs/Contents.antt` first: what a file is by its bytes, and then `specs/Learning.antt`:
-//! what a run learns of the files that it has seen.
+//! Read `specs/Contents.antt` first: what a file is by its bytes, then `specs/Learning.antt`: what
+//! a run learns of the files that it has seen, `specs/Updates.antt`: what an update does, and
+//! `specs/Updating.antt`: which bytes are the updated state.
 //!
 //! `learn_files` reads each file once and to its end, through a `Watched` source, which remembers
 //! whether a NUL was among the first bytes. A text goes with its trigrams to a `Builder` of
 //! `cs_index`, a binary file and one that no index can hold to the *others*. A file that cannot be
 //! read to its end is not learned, since a search has to report it each time, and neither is one
 //! whose stamp is not old at the moment of the run: a later write might give the same stamp.
+//!
+//! `first_state` writes the state that knows what was learned. The steps of an update of an old
+//! state are here, and no call joins them yet: its index is to be merged with that of the texts
+//! that were learned, whose paths are the names that were seen (`own_paths`), and the stamps and
+//! the others follow by the same merge of two ascending lists (`write_stamps`, `write_others`).
 #![tactic(auto)]
 
 mod age;
 mod call;
+mod counted_output;
+mod due;
 mod fault;
 mod found;
+pub mod laws;
 mod learned;
 mod learning;
+mod new_state;
+mod old_texts;
+mod others;
+mod own_paths;
+mod own_texts;
 mod reading;
-mod seen;
+mod stamps;
+mod updating;
 mod watched;
 mod watching;
+mod writing;
 
 pub use call::UpdateCall;
+pub use cs_known::SeenFile;
+pub use due::is_due;
 pub use fault::UpdateFault;
 pub use learned::Learned;
 pub use learning::learn_files;
-pub use seen::SeenFile;
+pub use updating::first_state;

@@ -1,5 +1,5 @@
 use Rattle.std.proofs.Common.{◌≡◌, ◌∙◌, ◌+◌, ℕ, List, Option, Some, option_map, take, ap, refl, subst}
-use Rattle.cs_index.specs.Answerable.{AreCandidates}
+use Rattle.cs_index.specs.Candidates.{AreCandidates}
 use Rattle.cs_state.specs.StateFile.{body_of}
 use Rattle.cs_known.specs.declared.indexed.IndexedFiles.{IndexedFiles}
 use Rattle.cs_known.proofs.StateLemmas.{body_model, first_indexed, first_others, index_model, stands}

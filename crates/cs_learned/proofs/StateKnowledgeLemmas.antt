@@ -1,0 +1,68 @@
+-- What a state knows, however far its file is read.
+use Rattle.std.proofs.Common.{◌≡◌, ◌∙◌, ℕ, Bool, false, true, List, Option, None, Some, ap, refl, subst, sym}
+use Rattle.std.specs.Prelude.{IfOk, IfSome, Result, Ok, Err, string_bytes}
+use Rattle.cs_tree.specs.declared.look.Stamp.{Stamp}
+use Rattle.cs_trigram.specs.Query.{LosesNoLine}
+use Rattle.cs_trigram.specs.declared.queries.Query.{Query}
+use Rattle.cs_fresh.specs.Knowledge.{HoldsAsBefore, SearchedTree, SkipsNothingShown}
+use Rattle.cs_fresh.specs.Searched.{binary_as}
+use Rattle.cs_state.specs.Known.{ProjectState}
+use Rattle.cs_state.specs.ProjectStates.{IsState}
+use Rattle.cs_known.specs.KnownFiles.{AreOptions, Knows}
+use Rattle.cs_known.specs.declared.known_files.KnownFiles.{KnownFiles}
+use Rattle.cs_learned.specs.ClosedStates.{IsPreparedFor, IsStillKnown, IsUnread}
+use Rattle.cs_learned.specs.KnownProjects.{AreKnownFor, IsKnownFor, KeepsFiles}
+use Rattle.cs_learned.specs.declared.closed_state.ClosedState.{ClosedState}
+use Rattle.cs_learned.specs.declared.closed_state.PreparedState.{PreparedState}
+use Rattle.cs_learned.specs.declared.known_project.KnownProject.{KnownProject}
+use Rattle.cs_learned.proofs.KnownProjectLemmas.{known_as_before}
+
+module _ {S I B E : Type 0} (model : S → Option (List ℕ)) (index_model : I → Option (List ℕ)) (body_model : B → Option (List ℕ)) where
+  -- the files of an opened state are known for what asked for them
+  pub opened_for : (root : List ℕ) (tree : SearchedTree) (prepared : PreparedState S) (left : IsPreparedFor model root tree prepared)
+      (found : Result (Option (KnownFiles I B)) E) →
+      IfOk found (λ f. IfSome f (Knows index_model body_model prepared.query left.0.state)) →
+      IfOk found (λ f. IfSome f (λ files. files.options ≡ prepared.options)) →
+      IfOk found (λ f. IfSome f (AreKnownFor index_model body_model root tree))
+  opened_for root tree prepared left (Err fault) knows options = tt
+  opened_for root tree prepared left (Ok None) knows options = tt
+  opened_for root tree prepared left (Ok (Some files)) knows options = record {
+    search = left.1.0;
+    query = prepared.query;
+    state = left.0.state;
+    runs = left.0.runs;
+    options = subst (AreOptions tree.options (binary_as tree.binary false)) (sym options) left.1.2;
+    knows = knows;
+    query_of = left.1.1;
+    holds = left.0.holds;
+  }
+
+-- of an option that is there
+pub some_in : {A : Type 0} (P : A → Type 0) (found : Option A) (one : A) → found ≡ Some one → IfSome found P → P one
+some_in P found one is has = subst (λ f. IfSome f P) is has
+
+pub none_in : {A : Type 0} (P : A → Type 0) (found : Option A) → found ≡ None → IfSome found P
+none_in P found is = subst (λ f. IfSome f P) (sym is) tt
+
+module _ {S I B : Type 0} (model : S → Option (List ℕ)) (index_model : I → Option (List ℕ)) (body_model : B → Option (List ℕ))
+    (closed : Option (ClosedState S)) (prepared : Option (PreparedState S)) (tree : SearchedTree) where
+  -- the same files below the same folder
+  pub still_known : (old new : KnownProject I B) → new ≡ old → IsUnread model (string_bytes old.root) closed prepared tree →
+      IsKnownFor index_model body_model (string_bytes old.root) old.files tree →
+      IsStillKnown model index_model body_model (string_bytes new.root) closed prepared new.files tree
+  still_known old new is unread known =
+      subst (λ k. IsStillKnown model index_model body_model (string_bytes k.root) closed prepared k.files tree) (sym is) (unread, known)
+
+  -- a call that keeps the files
+  pub still_kept : (old new : KnownProject I B) → new.root ≡ old.root → KeepsFiles index_model body_model old.files new.files →
+      IsStillKnown model index_model body_model (string_bytes old.root) closed prepared old.files tree →
+      IsStillKnown model index_model body_model (string_bytes new.root) closed prepared new.files tree
+  still_kept old new same keeps held =
+      subst (λ r. IsStillKnown model index_model body_model (string_bytes r) closed prepared new.files tree) (sym same)
+      (held.0, known_as_before index_model body_model (string_bytes old.root) old.files new.files keeps tree held.1)
+
+-- what is skipped by what holds later may be skipped
+pub skips_as_before : {E : Type 0} (Old Mid : SearchedTree → Type 0) (path : List ℕ) (stamp : Option Stamp) (result : Result Bool E) →
+    HoldsAsBefore Old Mid → IfOk result (SkipsNothingShown Mid path stamp) → IfOk result (SkipsNothingShown Old path stamp)
+skips_as_before Old Mid path stamp (Err fault) as_before skips = tt
+skips_as_before Old Mid path stamp (Ok answer) as_before skips = λ tree old. skips tree (as_before tree old)

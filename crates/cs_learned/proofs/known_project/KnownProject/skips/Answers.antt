@@ -1,0 +1,19 @@
+use Rattle.std.proofs.Common.{true, subst, sym}
+use Rattle.std.specs.Prelude.{string_bytes}
+use Rattle.std.specs.Str.Pattern.{FindsTextPrefix, StripsPrefix}
+use Rattle.cs_fresh.specs.Knowledge.{SkipsNothingShown}
+use Rattle.cs_learned.specs.KnownProjects.{IsFoundIn, IsKnownFor}
+use Rattle.cs_learned.proofs.KnownProjectLemmas.{skips_nothing_shown, stripped}
+use Rattle.cs_learned.proofs.known_project.KnownProject.skips.Goals as goal
+
+pub returns-in-Skipped-clause-skips : goal.returns-in-Skipped-clause-skips
+returns-in-Skipped-clause-skips g c =
+    let path = c.args.path.now in
+    let root = string_bytes c.args.self.now.root in
+    let name = c.in-Some-strip_prefix.name.now in
+    let files = c.args.self.now.files in
+    let below = stripped path root name
+    (subst (λ s. StripsPrefix (FindsTextPrefix s) path name) c.as_str.ensures.value c.in-Some-strip_prefix.ensures.cases) in
+    let found = subst (λ l. IsFoundIn g.I.Store.model g.B.Store.model files name c.in-Some.stamp l) c.in-Skipped.is c.in_ok-find.ensures.found in
+    subst (λ seen. SkipsNothingShown (IsKnownFor g.I.Store.model g.B.Store.model root files) path seen true) (sym c.in-Some.is)
+    (skips_nothing_shown g.I.Store.model g.B.Store.model root files c.a_skipped_path_prints_nothing.ensures path name c.in-Some.stamp below found)

@@ -1,5 +1,0 @@
-use Rattle.cs_learned.proofs.UpdateLemmas.{left_states_are_learned}
-use Rattle.cs_learned.proofs.laws.states_that_runs_leave_are_learned.Goals as goal
-
-pub returns : goal.returns
-returns c = left_states_are_learned

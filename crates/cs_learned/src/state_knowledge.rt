@@ -1,0 +1,194 @@
+// The state file of a project as the knowledge of a search.
+ghost use Rattle.std.specs.Prelude.{◌≡◌, ℕ, List, false, IfOk, IfSome, string_bytes};
+ghost use Rattle.cs_fresh.specs.Knowledge.{HoldsAsBefore, SearchedTree};
+ghost use Rattle.cs_fresh.specs.Searched.{binary_as};
+ghost use Rattle.cs_learned.specs.ClosedStates.{AsksFor, IsPreparedFor, IsStillKnown, IsUnread};
+ghost use Rattle.cs_learned.specs.KnownProjects.{AreKnownFor};
+
+use crate::closed_state::{ClosedState, PreparedState};
+use crate::known_project::KnownProject;
+use cs_fresh::{AskedSearch, Knowledge};
+use cs_known::{SeenFile, SkipOptions, StoredFiles};
+use cs_project::BinaryFiles;
+use cs_state::{FirstBytes, StateFile, SummedBytes};
+use cs_tree::{IoFault, Stamp, Store};
+use cs_trigram::{Query, query};
+use std::alloc::{AllocError, Global};
+
+/// The number of files from which on a state is read: fewer are read sooner than it.
+const FEW: usize = 500;
+
+/// The state file of a project as the knowledge of a search. The file is opened when the search has
+/// come to many files.
+#[derive(Drop)]
+pub struct StateKnowledge<S: Store> {
+    alloc: Global,
+    /// The file before a search is asked for.
+    closed: Option<ClosedState<S>>,
+    /// The file of a search that has come to few files.
+    prepared: Option<PreparedState<S>>,
+    known: KnownProject<FirstBytes<SummedBytes<S>>, SummedBytes<S>>,
+    /// How many files the search has come to.
+    met: usize,
+    /// Whether what is unknown is to be learned.
+    learns: bool,
+    /// Whether it is, however little it is.
+    is_update: bool,
+    /// Whether the search meets all files of the project.
+    is_whole: bool,
+}
+
+impl<S: Store + Drop> StateKnowledge<S> {
+    /// The state of the project of a folder, if there is one.
+    pub fn new(alloc: Global, root: String, closed: Option<ClosedState<S>>) -> StateKnowledge<S>
+        ensures root { result.known.root ≡ root }
+        ensures closed { result.closed ≡ closed }
+    {
+        StateKnowledge {
+            alloc,
+            closed,
+            prepared: None,
+            known: KnownProject::new(alloc, root, None),
+            met: 0,
+            learns: false,
+            is_update: false,
+            is_whole: false,
+        }
+    }
+
+    /// Whether the search was over a state that is no damaged file.
+    pub fn is_open(&self) -> bool {
+        self.known.files.is_some()
+    }
+
+    /// Whether the files that are unknown are to be learned even if they are few.
+    pub fn is_update(&self) -> bool {
+        self.is_update
+    }
+
+    /// Whether the state is to be made anew: of the texts that it knows most are not in the
+    /// project, or have another stamp by now.
+    pub fn is_outdated(&self) -> bool {
+        let texts = match &self.known.files {
+            Some(files) => files.text_count() as usize,
+            None => 0,
+        };
+        let found = self.met.saturating_sub(self.known.unknown.len());
+        self.learns && self.is_whole && texts > found.saturating_mul(2).saturating_add(1000)
+    }
+
+    /// The files that are to be learned, by ascending names.
+    pub fn unknown(&self) -> &[SeenFile] {
+        if self.is_update || (self.learns && self.met >= FEW) {
+            &self.known.unknown
+        } else {
+            &[]
+        }
+    }
+
+    /// Keeps what is asked for until the file is read.
+    fn prepare(&mut self, options: SkipOptions, query: Query)
+        ensures unread { (root : List ℕ) (tree : SearchedTree) → AsksFor options query tree →
+            IsUnread S.model root self.old.closed self.old.prepared tree →
+            IsUnread S.model root self.new.closed self.new.prepared tree }
+        ensures known { self.new.known ≡ self.old.known }
+    {
+        if let Some(closed) = self.closed.take() {
+            self.prepared = Some(PreparedState {
+                closed,
+                options,
+                query,
+            });
+        }
+    }
+
+    /// Opens the file. What the search has met before is read, so it need not be known.
+    fn open(&mut self) -> Result<(), AllocError>
+        ensures { HoldsAsBefore (⟦<StateKnowledge<S> as Knowledge>⟧.Holds self.old)
+            (⟦<StateKnowledge<S> as Knowledge>⟧.Holds self.new) }
+    {
+        let Some(prepared) = self.prepared.take() else {
+            return Ok(());
+        };
+        self.known.files = open_files(self.alloc, prepared)?;
+        if self.is_open() {
+            self.known.unknown = Vec::new(self.alloc);
+        }
+        Ok(())
+    }
+
+    /// Counts a file. The last of a few files opens the state.
+    fn meet(&mut self) -> Result<(), AllocError>
+        ensures { HoldsAsBefore (⟦<StateKnowledge<S> as Knowledge>⟧.Holds self.old)
+            (⟦<StateKnowledge<S> as Knowledge>⟧.Holds self.new) }
+    {
+        self.met = self.met.saturating_add(1);
+        if self.met == FEW {
+            return self.open();
+        }
+        Ok(())
+    }
+}
+
+/// What binary files that a walk meets are searched as.
+fn met_binaries(binary: bool) -> BinaryFiles
+    ensures { result ≡ binary_as binary false }
+{
+    if binary {
+        BinaryFiles::Text
+    } else {
+        BinaryFiles::WithoutMatch
+    }
+}
+
+/// The files that a state file knows. None if it is damaged.
+fn open_files<S: Store + Drop>(
+    alloc: Global,
+    prepared: PreparedState<S>,
+) -> Result<Option<StoredFiles<S>>, AllocError>
+    ensures { (root : List ℕ) (tree : SearchedTree) → IsPreparedFor S.model root tree prepared → IfOk result
+        (λ found. IfSome found (AreKnownFor ⟦<FirstBytes<SummedBytes<S>> as Store>⟧.model
+        ⟦<SummedBytes<S> as Store>⟧.model root tree)) }
+{
+    let PreparedState {
+        closed,
+        options,
+        query,
+    } = prepared;
+    match StateFile::open(alloc, closed.file) {
+        Ok(Some(state)) => StoredFiles::open(alloc, options, &query, state, closed.again),
+        Err(IoFault::Memory) => Err(AllocError),
+        _ => Ok(None),
+    }
+}
+
+impl<S: Store + Drop> Knowledge for StateKnowledge<S> {
+    ghost Holds = { λ k tree. IsStillKnown S.model ⟦<FirstBytes<SummedBytes<S>> as Store>⟧.model
+        ⟦<SummedBytes<S> as Store>⟧.model (string_bytes k.known.root) k.closed k.prepared
+        k.known.files tree };
+
+    fn begin(&mut self, asked: &AskedSearch<'_>) -> Result<(), AllocError> {
+        self.learns = asked.updates;
+        self.is_whole = asked.whole;
+        let query = query(self.alloc, asked.pattern)?;
+        self.prepare(
+            SkipOptions::new(&asked.options, met_binaries(asked.binary)),
+            query,
+        );
+        Ok(())
+    }
+
+    /// The state is made anew, so nothing is known.
+    fn begin_update(&mut self, whole: bool) -> Result<(), AllocError> {
+        self.learns = true;
+        self.is_update = true;
+        self.is_whole = whole;
+        self.closed = None;
+        Ok(())
+    }
+
+    fn skips(&mut self, path: &str, stamp: Option<Stamp>) -> Result<bool, AllocError> {
+        self.meet()?;
+        self.known.skips(path, stamp)
+    }
+}

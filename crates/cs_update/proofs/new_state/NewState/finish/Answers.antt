@@ -1,0 +1,8 @@
+use Rattle.std.proofs.Common.{arith}
+use Rattle.cs_update.proofs.WritingLemmas.{body_short}
+use Rattle.cs_update.proofs.new_state.NewState.finish.Goals as goal
+
+pub returns : goal.returns
+returns g c = λ index stamps others has short.
+    c.in_ok-out.ensures index stamps others has.written
+    (body_short index stamps others c.args.self.len has.len (omega (arith, c.if-len.false)) short)

@@ -1,0 +1,15 @@
+use Rattle.std.proofs.Common.{◌++◌, map, take, subst}
+use Rattle.cs_state.specs.OtherReaders.{known_of}
+use Rattle.cs_state.specs.ProjectStates.{IsOther}
+use Rattle.cs_update.specs.NewStates.{HasBegun}
+use Rattle.cs_update.proofs.WritingLemmas.{all_at, mapped_next}
+use Rattle.cs_update.proofs.new_state.NewState.others.Goals as goal
+
+pub files-preserved : goal.files-preserved
+files-preserved g c = λ index stamps others has each.
+    let files = c.args.files.now in
+    let at = c.files.file-index in
+    let file = c.file-item.result in
+    subst (HasBegun g.O.Output.given c.other.new.self index stamps) (mapped_next known_of others files at file c.files-test.true c.file-item.is)
+    (c.in_ok-other.ensures index stamps (others ++ map known_of (take at files)) (c.files.invariant index stamps others has each)
+    (all_at IsOther known_of files at file c.files-test.true c.file-item.is each))

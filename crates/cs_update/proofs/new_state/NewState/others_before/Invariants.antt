@@ -1,0 +1,16 @@
+use Rattle.std.proofs.Common.{ℕ, List, map, length}
+use Rattle.std.specs.List.{AllByRecursion}
+use Rattle.cs_tree.specs.declared.look.Stamp.{Stamp}
+use Rattle.cs_state.specs.Known.{Known}
+use Rattle.cs_state.specs.OtherReaders.{known_of}
+use Rattle.cs_state.specs.ProjectStates.{IsOther}
+use Rattle.cs_update.specs.NewStates.{HasBegun, HasOthersOf}
+use Rattle.cs_update.proofs.new_state.NewState.others_before.Given as goal
+
+abbrev pub invariant-files : goal.invariant-files
+invariant-files g l = (index : List ℕ) (stamps : List Stamp) (others : List Known) → HasBegun g.O.Output.given l.fn.self index stamps others →
+    AllByRecursion IsOther (map known_of l.files) → AllByRecursion IsOther (map known_of l.rest)
+    × HasOthersOf g.O.Output.given l.self index stamps others (map known_of l.files) (map known_of l.rest)
+
+abbrev pub decreases-files : goal.decreases-files
+decreases-files g l = length l.rest

@@ -1,0 +1,22 @@
+// The paths of the own index.
+ghost use Rattle.std.specs.Prelude.{◌≡◌, IfOk, map, string_bytes};
+ghost use Rattle.cs_tree.specs.PathSet as set;
+ghost use Rattle.cs_update.specs.Learning.{seen_of};
+ghost use Rattle.cs_update.specs.Updating.{paths_seen};
+
+use cs_known::SeenFile;
+use cs_tree::reduce;
+use std::alloc::{AllocError, Global};
+
+/// The names of the files that no other one covers, ascending.
+pub(crate) fn own_paths(alloc: Global, files: &[SeenFile]) -> Result<Vec<String>, AllocError>
+    ensures { IfOk result (λ paths. map string_bytes paths.items
+        ≡ set.items (paths_seen (map seen_of files.now))) }
+{
+    let mut names = Vec::new(alloc);
+    'files: for file in files {
+        names.push(String::from_str(alloc, file.name.as_str())?)?;
+    }
+    let paths = reduce(alloc, &names)?;
+    Ok(paths)
+}

@@ -7,9 +7,9 @@ use Rattle.cs_project.specs.declared.letter_case.LetterCase.{LetterCase}
 use Rattle.cs_project.specs.declared.settings.Limits.{Limits}
 use Rattle.cs_project.specs.declared.settings.Switches.{Switches}
 use Rattle.cs_project.specs.declared.words.WordItem.{WordItem}
-use Rattle.cs_command.specs.Choices.{choices_of}
+use Rattle.cs_command.specs.Choices.{choices_of, may_update}
 use Rattle.cs_command.specs.Patterns.{pattern_in}
-use Rattle.cs_command.specs.Requests.{asked_pattern, request_by}
+use Rattle.cs_command.specs.Requests.{RequestView, asked_pattern, request_by}
 use Rattle.cs_command.specs.Texts.{TextsView, needs_pattern, texts_of}
 use Rattle.cs_command.specs.Values.{and_then, number_in, colour_in, limits_in}
 use Rattle.cs_command.specs.declared.fault.RequestFault.{RequestFault}
@@ -47,22 +47,20 @@ module _ (words : List (List ℕ)) (items : List WordItem) (options : Options) w
         bad_pattern fault e =
             and_then_ok _ _ limits a ∙ and_then_ok _ _ colour b ∙ and_then_ok _ _ depth d ∙ and_then_err _ _ fault (same ∙ e)
 
-        pub requested : (pattern : Option Tree) → asked_pattern words options.switches case texts ≡ Ok pattern
-            → request_by words items options ≡ Ok (record {
-              switches = options.switches;
-              limits = limits;
-              colour = colour;
-              choices = choices_of words options.switches.files depth items;
-              paths = texts.paths;
-              pattern = pattern;
-            })
-        requested pattern e =
+        abbrev pub view_by : Bool → TextsView → Option Tree → RequestView
+        view_by updates texts pattern = record {
+          switches = options.switches;
+          limits = limits;
+          colour = colour;
+          choices = choices_of words options.switches.files depth items;
+          updates = updates;
+          paths = texts.paths;
+          pattern = pattern;
+        }
+
+        pub requested : (updates : Bool) → updates ≡ may_update options.switches items → (pattern : Option Tree)
+            → asked_pattern words options.switches case texts ≡ Ok pattern → request_by words items options ≡ Ok (view_by updates texts pattern)
+        requested updates us pattern e =
             and_then_ok _ _ limits a ∙ and_then_ok _ _ colour b ∙ and_then_ok _ _ depth d ∙ and_then_ok _ _ pattern (same ∙ e)
-            ∙ ap (λ (t : TextsView). Ok (record {
-              switches = options.switches;
-              limits = limits;
-              colour = colour;
-              choices = choices_of words options.switches.files depth items;
-              paths = t.paths;
-              pattern = pattern;
-            })) (sym ts)
+            ∙ ap (λ (t : TextsView). Ok (view_by (may_update options.switches items) t pattern)) (sym ts)
+            ∙ ap (λ (u : Bool). Ok (view_by u texts pattern)) (sym us)

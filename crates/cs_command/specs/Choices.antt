@@ -1,12 +1,13 @@
 -- Which files the options choose, one choice after another: the kinds of files, the depth, and then globs and types in
 -- their order.
-use Rattle.std.specs.Prelude.{ℕ, ◌≡◌, ◌++◌, ◌&&◌, nat_eq, Bool, true, false, if◌then◌else◌, List, [], ◌∷◌, Option, Some, None}
+use Rattle.std.specs.Prelude.{ℕ, ◌≡◌, ◌++◌, ◌&&◌, not, nat_eq, Bool, true, false, if◌then◌else◌, List, [], ◌∷◌, Option, Some, None}
 use Rattle.std.specs.List.{filter_map, list_any}
-use Rattle.std.specs.Option.{option_to_list}
 use Rattle.cs_listing.specs.Choices.{Settings, AddsGlob, AddsType}
+use Rattle.cs_project.specs.declared.named.Switch.TheVariants as on
 use Rattle.cs_project.specs.declared.named.Valued.{Valued}
 use Rattle.cs_project.specs.declared.named.Valued.TheVariants as valued
 use Rattle.cs_project.specs.declared.settings.FileChoice.{FileChoice}
+use Rattle.cs_project.specs.declared.settings.Switches.{Switches}
 use Rattle.cs_project.specs.declared.words.WordItem.{WordItem}
 use Rattle.cs_project.specs.declared.words.WordItem.TheVariants as item
 use Rattle.cs_command.specs.Options.{part_of}
@@ -82,3 +83,19 @@ is_fault_of _ _ = false
 -- the error of a type or a glob that one of the items names
 abbrev pub IsChoiceIn : List WordItem → RequestFault → Type 0
 IsChoiceIn items fault = list_any (is_fault_of fault) items ≡ true
+
+-- ---- the state
+
+-- the option changes which files below a folder are searched
+abbrev pub chooses_files : WordItem → Bool
+chooses_files (item.Switch on.Hidden) = true
+chooses_files (item.Switch on.Unrestricted) = true
+chooses_files (item.Value valued.Glob word from) = true
+chooses_files (item.Value valued.FileType word from) = true
+chooses_files (item.Value valued.NotType word from) = true
+chooses_files (item.Value valued.Depth word from) = true
+chooses_files _ = false
+
+-- The state of a project is updated by what is learned of its own files alone.
+abbrev pub may_update : Switches → List WordItem → Bool
+may_update switches items = switches.state.updated && not (list_any chooses_files items)

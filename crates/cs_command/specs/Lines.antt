@@ -1,8 +1,6 @@
 -- The lines of errors. Words are lists of bytes.
 use Rattle.std.specs.Prelude.{ℕ, Bool, ◌||◌, ◌&&◌, not, nat_le, nat_lt, if◌then◌else◌, List, ◌++◌, take, replicate, count_by, codes, decimal}
 use Rattle.std.specs.List.{list_any}
-use Rattle.cs_project.specs.declared.named.Switch.{Switch}
-use Rattle.cs_project.specs.declared.named.Switch.TheVariants as on
 use Rattle.cs_project.specs.declared.words.ItemFault.{ItemFault}
 use Rattle.cs_project.specs.declared.words.ItemFault.TheVariants.{Unknown, LeftOut, ExtraValue, NoValue, Memory as ItemMemory}
 use Rattle.cs_syntax.specs.FaultTexts.{fault_text}
@@ -11,7 +9,7 @@ use Rattle.cs_syntax.specs.declared.fault.PatternFault.{PatternFault}
 use Rattle.cs_command.specs.Options.{part_of}
 use Rattle.cs_command.specs.Values.{text_of}
 use Rattle.cs_command.specs.declared.fault.RequestFault.{RequestFault}
-use Rattle.cs_command.specs.declared.fault.RequestFault.TheVariants.{Item, NoIndex, NoNumber, NoColour, NoType, NoGlob, NoPattern, BadPattern, Memory}
+use Rattle.cs_command.specs.declared.fault.RequestFault.TheVariants.{Item, NoNumber, NoColour, NoType, NoGlob, NoPattern, BadPattern, Memory}
 
 -- what is wrong, and with what
 abbrev pub line_about : List ℕ → List ℕ → List ℕ
@@ -31,12 +29,6 @@ item_line words (LeftOut word at) = line_about (codes "an option of rg that cs d
 item_line words (ExtraValue word) = line_about (codes "an option that takes no value") (text_of words (part_of word 0))
 item_line words (NoValue word) = line_of (codes "the last option needs a value")
 item_line words ItemMemory = line_of (codes "out of memory")
-
--- the name of an option of an index
-abbrev pub index_option : Switch → List ℕ
-index_option on.Update = codes "--update"
-index_option on.NoUpdate = codes "--no-update"
-index_option _ = codes "--no-state"
 
 -- the most characters of a pattern that is printed
 abbrev pub width : ℕ
@@ -67,7 +59,6 @@ pattern_lines text error = pattern_head error.fault ++ (if is_short text then ca
 
 abbrev pub lines_of : List (List ℕ) → RequestFault → List ℕ
 lines_of words (Item fault) = item_line words fault
-lines_of words (NoIndex switch) = line_about (index_option switch) (codes "cs keeps no index yet")
 lines_of words (NoNumber part) = line_about (codes "not a number") (text_of words part)
 lines_of words (NoColour part) = line_about (codes "not always, never or auto") (text_of words part)
 lines_of words (NoType part) = line_about (codes "no such type (cs --type-list)") (text_of words part)

@@ -1,8 +1,6 @@
 -- What the options among items ask for: the switches one after another, and the last value of each option.
-use Rattle.std.specs.Prelude.{ℕ, Bool, true, false, if◌then◌else◌, List, [], ◌∷◌, Some, None}
+use Rattle.std.specs.Prelude.{ℕ, List, [], ◌∷◌, Some, None}
 use Rattle.cs_project.specs.Settings.{no_switches, with_switch}
-use Rattle.cs_project.specs.declared.named.Switch.{Switch}
-use Rattle.cs_project.specs.declared.named.Switch.TheVariants as on
 use Rattle.cs_project.specs.declared.named.Valued.{Valued}
 use Rattle.cs_project.specs.declared.named.Valued.TheVariants as valued
 use Rattle.cs_project.specs.declared.words.WordItem.{WordItem}
@@ -28,21 +26,9 @@ with_value values valued.Colour part = record values { colour = Some part }
 with_value values valued.Depth part = record values { depth = Some part }
 with_value values _ part = values
 
--- options of an index
-abbrev pub needs_index : Switch → Bool
-needs_index on.Update = true
-needs_index on.NoUpdate = true
-needs_index on.NoState = true
-needs_index _ = false
-
-abbrev pub with_option : Options → Switch → Options
-with_option options switch =
-    if needs_index switch then record options { of_index = Some switch }
-    else record options { switches = with_switch options.switches switch }
-
 -- after one more item
 abbrev pub with_item : Options → WordItem → Options
-with_item options (item.Switch switch) = with_option options switch
+with_item options (item.Switch switch) = record options { switches = with_switch options.switches switch }
 with_item options (item.Value valued word from) = record options { values = with_value options.values valued (part_of word from) }
 with_item options (item.Operand word) = options
 
@@ -51,4 +37,4 @@ options_after options [] = options
 options_after options (item ∷ items) = options_after (with_item options item) items
 
 abbrev pub options_of : List WordItem → Options
-options_of items = options_after (record { switches = no_switches; values = no_values; of_index = None }) items
+options_of items = options_after (record { switches = no_switches; values = no_values }) items

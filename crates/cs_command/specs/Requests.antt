@@ -9,13 +9,13 @@ use Rattle.cs_project.specs.declared.letter_case.LetterCase.{LetterCase}
 use Rattle.cs_project.specs.declared.settings.Limits.{Limits}
 use Rattle.cs_project.specs.declared.settings.Switches.{Switches}
 use Rattle.cs_project.specs.declared.words.WordItem.{WordItem}
-use Rattle.cs_command.specs.Choices.{Choice, choices_of, ChoosesAll, IsChoiceIn}
+use Rattle.cs_command.specs.Choices.{Choice, choices_of, ChoosesAll, IsChoiceIn, may_update}
 use Rattle.cs_command.specs.Options.{options_of}
 use Rattle.cs_command.specs.Patterns.{pattern_in}
 use Rattle.cs_command.specs.Texts.{TextsView, needs_pattern, texts_of}
 use Rattle.cs_command.specs.Values.{and_then, number_in, colour_in, limits_in}
 use Rattle.cs_command.specs.declared.fault.RequestFault.{RequestFault}
-use Rattle.cs_command.specs.declared.fault.RequestFault.TheVariants.{Item as BadItem, NoIndex, Memory}
+use Rattle.cs_command.specs.declared.fault.RequestFault.TheVariants.{Item as BadItem, Memory}
 use Rattle.cs_command.specs.declared.options.Options.{Options}
 use Rattle.cs_command.specs.declared.request.Request.{Request}
 
@@ -25,6 +25,8 @@ pub record RequestView : Type 0 where
   -- whether there are colours; none if the terminal decides
   pub colour : Option Bool
   pub choices : List Choice
+  -- whether the state of the project may be updated
+  pub updates : Bool
   -- the words that are paths
   pub paths : List ℕ
   -- what is searched for, if lines are searched
@@ -51,16 +53,13 @@ request_by words items options =
       limits = limits;
       colour = colour;
       choices = choices_of words switches.files depth items;
+      updates = may_update switches items;
       paths = texts.paths;
       pattern = pattern;
     })))))
 
--- no option of an index has a meaning yet
-abbrev pub request_in : List (List ℕ) → List WordItem → Options → Result RequestView RequestFault
-request_in words items options = elim options.of_index [ Some switch ↦ Err (NoIndex switch) | None ↦ request_by words items options ]
-
 abbrev pub request_of : List (List ℕ) → Result RequestView RequestFault
-request_of words = elim (items_of words) [ Ok items ↦ request_in words items (options_of items) | Err fault ↦ Err (BadItem fault) ]
+request_of words = elim (items_of words) [ Ok items ↦ request_by words items (options_of items) | Err fault ↦ Err (BadItem fault) ]
 
 -- a request, beside the choices that make its own
 abbrev pub view_of : List Choice → Request → RequestView
@@ -69,6 +68,7 @@ view_of choices request = record {
   limits = request.limits;
   colour = request.colour;
   choices = choices;
+  updates = request.updates;
   paths = request.paths.items;
   pattern = request.pattern;
 }

@@ -1,10 +1,10 @@
 // Which files the options choose.
 ghost use Rattle.std.specs.Prelude.{◌≡◌, ◌≢◌, map, string_bytes, Ok, Err, [], ◌∷◌, true, OnOk, IfErr};
-ghost use Rattle.std.specs.List.{filter_map};
+ghost use Rattle.std.specs.List.{filter_map, list_any};
 ghost use Rattle.cs_listing.specs.Models.{chosen_in};
 ghost use Rattle.std.specs.Option.{option_to_list};
 ghost use Rattle.cs_listing.specs.Choices.{AddsGlob, AddsType};
-ghost use Rattle.cs_command.specs.Choices.{ChoosesAll, hidden_if, ignored_if, depth_of, choices_by, choice_by, choice_in, IsChoiceIn};
+ghost use Rattle.cs_command.specs.Choices.{ChoosesAll, hidden_if, ignored_if, depth_of, choices_by, choice_by, choice_in, IsChoiceIn, chooses_files, may_update};
 ghost use Rattle.cs_command.specs.Values.{text_of};
 ghost use Rattle.cs_command.specs.declared.fault.RequestFault.TheVariants.{Memory, NoGlob, NoType};
 ghost use Rattle.cs_project.specs.declared.words.WordItem.TheVariants.{Value};
@@ -13,7 +13,7 @@ use crate::fault::RequestFault;
 use crate::options::WordPart;
 use crate::values::text_of;
 use cs_listing::Choices;
-use cs_project::{FileChoice, Valued, WordItem};
+use cs_project::{FileChoice, Switch, Switches, Valued, WordItem};
 
 /// Chooses by the switches and the depth.
 pub(crate) fn choose_kinds(choices: &mut Choices, files: FileChoice, depth: Option<usize>)
@@ -133,4 +133,30 @@ fn choose_type(
     } else {
         Err(RequestFault::NoType(part))
     }
+}
+
+/// Whether an option changes which files below a folder are searched.
+fn chooses_files(item: WordItem) -> bool
+    ensures { result ≡ chooses_files item }
+{
+    match item {
+        WordItem::Switch(Switch::Hidden | Switch::Unrestricted) => true,
+        WordItem::Value(Valued::Glob | Valued::FileType, _, _) => true,
+        WordItem::Value(Valued::NotType | Valued::Depth, _, _) => true,
+        _ => false,
+    }
+}
+
+/// Whether one of the options changes this.
+fn choose_files(items: &[WordItem]) -> bool
+    ensures { result ≡ list_any chooses_files items.now }
+{
+    items.iter().any(|item| chooses_files(*item))
+}
+
+/// Whether the state of the project may be updated: by what is learned of its own files alone.
+pub(crate) fn may_update(switches: &Switches, items: &[WordItem]) -> bool
+    ensures { result ≡ may_update switches.now items.now }
+{
+    switches.state.updated && !choose_files(items)
 }

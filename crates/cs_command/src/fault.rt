@@ -1,7 +1,7 @@
 // Why words ask for nothing.
 
 use crate::options::WordPart;
-use cs_project::{ItemFault, Switch};
+use cs_project::ItemFault;
 use cs_syntax::PatternError;
 use std::alloc::{AllocError, AllocFailed};
 
@@ -10,8 +10,6 @@ use std::alloc::{AllocError, AllocFailed};
 pub enum RequestFault {
     /// They are no options and operands.
     Item(ItemFault),
-    /// An option of an index, which `cs` does not keep yet.
-    NoIndex(Switch),
     /// A value is no decimal number below 2^64, as in `-m x`.
     NoNumber(WordPart),
     /// A value of `--color` is none of `always`, `never` and `auto`.

@@ -35,6 +35,9 @@ Files
   --hidden        hidden files outside of repositories too
   -u              ignored and hidden files too
 Other
+  --update        no search: only learns what spares later searches the reading of files
+  --no-update     a search that learns nothing
+  --no-state      a search that reads every file, and learns nothing
   --help, --version    these options; the version
   --              what follows is no option
 

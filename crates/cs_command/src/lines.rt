@@ -1,14 +1,14 @@
 // The lines of errors.
 ghost use Rattle.std.specs.Prelude.{◌≡◌, ◌++◌, ◌≤◌, map, string_bytes, take, length, count_by, replicate, codes, nat_lt, IfOk, OnOk};
 ghost use Rattle.std.specs.List.{list_any};
-ghost use Rattle.cs_command.specs.Lines.{line_about, line_of, unknown_line, item_line, index_option, begins_char, is_short, pattern_head, offset_line, caret_lines, pattern_lines, lines_of};
+ghost use Rattle.cs_command.specs.Lines.{line_about, line_of, unknown_line, item_line, begins_char, is_short, pattern_head, offset_line, caret_lines, pattern_lines, lines_of};
 ghost use Rattle.cs_command.specs.Options.{part_of};
 ghost use Rattle.cs_command.specs.Values.{text_of};
 
 use crate::fault::RequestFault;
 use crate::options::WordPart;
 use crate::values::text_of;
-use cs_project::{ItemFault, Switch};
+use cs_project::ItemFault;
 use cs_syntax::{PatternError, PatternFault};
 use itoa::Buffer;
 use std::alloc::{AllocError, Global};
@@ -26,9 +26,6 @@ pub fn fault_line(
 {
     match fault {
         RequestFault::Item(fault) => item_line(alloc, words, fault),
-        RequestFault::NoIndex(switch) => {
-            line_about(alloc, index_option(switch), "cs keeps no index yet")
-        }
         RequestFault::NoNumber(part) => { line_about(alloc, "not a number", text_of(words, part)) }
         RequestFault::NoColour(part) => {
             line_about(alloc, "not always, never or auto", text_of(words, part))
@@ -105,17 +102,6 @@ fn whole_word<'w>(words: &'w [String], word: usize) -> &'w str
     ensures { result.now ≡ text_of (map string_bytes words.now) (part_of word 0) }
 {
     text_of(words, WordPart { word, from: 0 })
-}
-
-/// The name of an option of an index.
-fn index_option(switch: Switch) -> &'static str
-    ensures { result.now ≡ index_option switch }
-{
-    match switch {
-        Switch::Update => "--update",
-        Switch::NoUpdate => "--no-update",
-        _ => "--no-state",
-    }
 }
 
 /// Whether a text has one line, no tab and few characters.

@@ -1,8 +1,8 @@
 // What the options among items ask for.
 ghost use Rattle.std.specs.Prelude.{◌≡◌};
-ghost use Rattle.cs_command.specs.Options.{no_values, needs_index, with_value, with_option, with_item, options_of};
+ghost use Rattle.cs_command.specs.Options.{no_values, with_value, with_item, options_of};
 
-use cs_project::{Switch, Switches, Valued, WordItem};
+use cs_project::{Switches, Valued, WordItem};
 
 /// A part of a word: from a byte to its end.
 #[derive(Clone, Copy, Drop)]
@@ -29,8 +29,6 @@ pub(crate) struct OptionValues {
 pub(crate) struct Options {
     pub(crate) switches: Switches,
     pub(crate) values: OptionValues,
-    /// The last option of an index.
-    pub(crate) of_index: Option<Switch>,
 }
 
 impl OptionValues {
@@ -64,36 +62,15 @@ impl OptionValues {
     }
 }
 
-/// Whether a switch is an option of an index.
-fn needs_index(switch: Switch) -> bool
-    ensures { result ≡ needs_index switch }
-{
-    match switch {
-        Switch::Update | Switch::NoUpdate | Switch::NoState => true,
-        _ => false,
-    }
-}
-
 impl Options {
     /// With one more item.
     fn add(&mut self, item: WordItem)
         ensures { self.new ≡ with_item self.old item }
     {
         match item {
-            WordItem::Switch(switch) => self.turn_on(switch),
+            WordItem::Switch(switch) => self.switches.set(switch),
             WordItem::Value(valued, word, from) => self.values.set(valued, WordPart { word, from }),
             WordItem::Operand(_) => {}
-        }
-    }
-
-    /// With one more switch.
-    fn turn_on(&mut self, switch: Switch)
-        ensures { self.new ≡ with_option self.old switch }
-    {
-        if needs_index(switch) {
-            self.of_index = Some(switch);
-        } else {
-            self.switches.set(switch);
         }
     }
 }
@@ -105,7 +82,6 @@ pub(crate) fn options_of(items: &[WordItem]) -> Options
     let mut options = Options {
         switches: Switches::new(),
         values: OptionValues::new(),
-        of_index: None,
     };
     let mut rest = items;
     'items: while let Some((item, behind)) = rest.split_first() {

@@ -5,7 +5,7 @@ ghost use Rattle.cs_command.specs.Requests.{asked_pattern, request_by, IsRequest
 ghost use Rattle.cs_command.specs.Texts.{shown};
 ghost use Rattle.cs_command.specs.declared.fault.RequestFault.TheVariants.{Memory};
 
-use crate::choosing::{choose_kinds, choose_names};
+use crate::choosing::{choose_kinds, choose_names, may_update};
 use crate::fault::RequestFault;
 use crate::options::{Options, options_of};
 use crate::patterns::pattern_in;
@@ -27,6 +27,8 @@ pub struct Request {
     pub colour: Option<bool>,
     /// Which files are searched.
     pub choices: Choices,
+    /// The state of the project may be updated.
+    pub updates: bool,
     /// The indices of the words that are paths.
     pub paths: Vec<usize>,
     /// What is searched for, if lines are searched.
@@ -47,11 +49,7 @@ pub fn read_request(
         Err(ItemFault::Memory) => return Err(RequestFault::Memory),
         Err(fault) => return Err(RequestFault::Item(fault)),
     };
-    let options = options_of(&items);
-    match options.of_index {
-        Some(switch) => Err(RequestFault::NoIndex(switch)),
-        None => request_by(alloc, choices, words, &items, &options),
-    }
+    request_by(alloc, choices, words, &items, &options_of(&items))
 }
 
 /// The request of items, whose options are known.
@@ -81,6 +79,7 @@ fn request_by(
         limits,
         colour,
         choices,
+        updates: may_update(&switches, items),
         paths: texts.paths,
         pattern,
     })

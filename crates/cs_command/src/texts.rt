@@ -60,7 +60,7 @@ pub(crate) fn needs_pattern(task: Task) -> bool
 {
     match task {
         Task::Search => true,
-        Task::Files | Task::Types | Task::Help | Task::Version => false,
+        Task::Files | Task::Types | Task::Update | Task::Help | Task::Version => false,
     }
 }
 

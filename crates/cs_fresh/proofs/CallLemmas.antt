@@ -1,17 +1,21 @@
 -- What is done for a request.
-use Rattle.std.proofs.Common.{◌≡◌, ◌≢◌, map, ℕ, true, false, List, Option, Some, None, sym, subst}
-use Rattle.std.specs.Prelude.{Result, Ok, Err, IfOk, string_bytes}
+use Rattle.std.proofs.Common.{◌≡◌, ◌≢◌, map, ℕ, Bool, true, false, List, Option, Some, None, sym, subst}
+use Rattle.std.specs.Prelude.{Result, Ok, Err, IfOk, IsSomeAnd, string_bytes}
+use Rattle.cs_syntax.specs.Matching.{Tree}
+use Rattle.cs_match.specs.SameLines.{MatchSameLines, MatchSameSpans}
 use Rattle.cs_tree.specs.Snapshot.{Snapshot, item_at}
 use Rattle.cs_listing.specs.Choices.{Settings}
 use Rattle.cs_listing.specs.FolderReads.{InTree}
+use Rattle.cs_listing.specs.Listing.{TreeItems}
 use Rattle.cs_listing.specs.Stamps.{Stamps}
 use Rattle.cs_command.specs.Requests.{IsRequest}
 use Rattle.cs_command.specs.declared.request.Request.{Request}
-use Rattle.cs_fresh.specs.Calls.{AnswersRequest, DoesProject, HasBase, IsScopeOf, IsSearchFor, ListsFor, SearchesFor, name_end}
-use Rattle.cs_fresh.specs.Knowledge.{HoldsFor, SearchedTree, by_names}
+use Rattle.cs_fresh.specs.Calls.{AnswersRequest, DoesProject, HasBase, IfRead, IsScopeOf, IsSearchFor, ListsFor, SearchesFor, name_end}
+use Rattle.cs_fresh.specs.Knowledge.{HoldsFor, HoldsIfAsked, SearchedTree, asked_as, by_names}
 use Rattle.cs_fresh.specs.Projects.{FindsInProject, ListsProject, SearchesProject}
 use Rattle.cs_fresh.specs.declared.call.ProjectCall.{ProjectCall}
 use Rattle.cs_fresh.specs.declared.file_search.FileSearch.{FileSearch}
+use Rattle.cs_fresh.specs.declared.knowledge.AskedSearch.{AskedSearch}
 use Rattle.cs_fresh.specs.declared.scope.Scope.{Scope}
 
 pub lists_for : {E : Type 0} (snapshot : Option Snapshot) (call : ProjectCall) (request : Request) (scope : Scope)
@@ -22,6 +26,73 @@ lists_for snapshot call request scope end given later (Err fault) is ends lists 
 lists_for None call request scope end given later (Ok status) is ends lists = tt
 lists_for (Some tree) call request scope end given later (Ok status) is ends lists =
     (scope, is, subst (λ e. ListsProject (item_at tree) scope e given later status) ends lists)
+
+-- ---- what is known
+
+-- what is said if more is known
+trusted : (Knows Trusted : FileSearch → Type 0) → ((search : FileSearch) → Trusted search → Knows search) →
+    (items : TreeItems) (call : ProjectCall) (request : Request) (silent : Bool) (given later : List ℕ) (status : ℕ) →
+    SearchesFor Knows items call request silent given later status → SearchesFor Trusted items call request silent given later status
+trusted Knows Trusted holds items call request false given later status says = λ right.
+    let all = says right in (all.0, all.1, all.2, all.3, λ known. all.4 (holds all.1 known))
+trusted Knows Trusted holds items call request true given later status says = (
+  says.0,
+  λ right.
+      let all = says.1 right in (all.0, all.1, all.2, all.3, λ known. all.4 (holds (by_names all.1) known)),
+)
+
+-- a search over what is read, or over nothing
+pub searches_if_read : {E : Type 0} (Own Given : SearchedTree → Type 0) (stamps : Snapshot → Stamps) (snapshot : Option Snapshot)
+    (call : ProjectCall) (request : Request) (silent : Bool) (given later : List ℕ) (result : Result ℕ E) →
+    ((search : FileSearch) → IfRead request (HoldsFor Given stamps snapshot) search → HoldsFor Own stamps snapshot search) →
+    IfOk result (λ status. InTree snapshot (λ items. SearchesFor (HoldsFor Own stamps snapshot) items call request silent given later status)) →
+    IfOk result (λ status. InTree snapshot
+    (λ items. SearchesFor (IfRead request (HoldsFor Given stamps snapshot)) items call request silent given later status))
+searches_if_read Own Given stamps snapshot call request silent given later (Err fault) holds says = tt
+searches_if_read Own Given stamps None call request silent given later (Ok status) holds says = tt
+searches_if_read Own Given stamps (Some tree) call request silent given later (Ok status) holds says =
+    trusted (HoldsFor Own stamps (Some tree)) (IfRead request (HoldsFor Given stamps (Some tree))) holds (item_at tree) call request silent
+    given later status says
+
+-- nothing is known
+pub nothing_known : (stamps : Snapshot → Stamps) (snapshot : Option Snapshot) (search : FileSearch) → HoldsFor (λ _. Unit {0}) stamps snapshot search
+nothing_known stamps None search = tt
+nothing_known stamps (Some tree) search = λ finding found. tt
+
+still_asked : (Old New : SearchedTree → Type 0) (stamps : Snapshot → Stamps) (snapshot : Option Snapshot) (asked : AskedSearch)
+    (search : FileSearch) → HoldsIfAsked asked Old New → search.options ≡ asked.options → search.binary ≡ asked.binary →
+    InTree snapshot (λ items. MatchSameLines search.search.matcher.tree asked.pattern.now) →
+    HoldsFor Old stamps snapshot search → HoldsFor New stamps snapshot search
+still_asked Old New stamps None asked search held options binary lines known = tt
+still_asked Old New stamps (Some tree) asked search held options binary lines known = λ finding found. held (record {
+  options = search.options;
+  binary = search.binary;
+  finding = finding;
+  items = item_at tree;
+  stamps = stamps tree;
+}) (record { search = search.search; options = options; binary = binary; found = found; lines = lines }) (known finding found)
+
+same_lines : (snapshot : Option Snapshot) (call : ProjectCall) (request : Request) (scope : Scope) (search : FileSearch) (pattern : Tree) →
+    request.pattern ≡ Some pattern → InTree snapshot (λ items. IsSearchFor items call request scope search) →
+    InTree snapshot (λ items. MatchSameLines search.search.matcher.tree pattern)
+same_lines None call request scope search pattern is for = tt
+same_lines (Some tree) call request scope search pattern is for =
+    (subst (λ p. IsSomeAnd p (λ t. MatchSameLines search.search.matcher.tree t × MatchSameSpans search.search.matcher.tree t)) is for.lines).0
+
+-- what is known still holds for the search that it was asked for
+pub asked_for : (Old New : SearchedTree → Type 0) (stamps : Snapshot → Stamps) (snapshot now : Option Snapshot) (call : ProjectCall)
+    (request : Request) (scope : Scope) (search : FileSearch) (asked : AskedSearch) (silent : Bool) → now ≡ snapshot →
+    InTree snapshot (λ items. IsSearchFor items call request scope search) → request.pattern ≡ Some asked.pattern.now →
+    asked.options ≡ (asked_as silent search).options → asked.binary ≡ search.binary → HoldsIfAsked asked Old New →
+    HoldsFor Old stamps now (asked_as silent search) → HoldsFor New stamps now (asked_as silent search)
+asked_for Old New stamps snapshot now call request scope search asked true same for is options binary held known =
+    still_asked Old New stamps now asked (by_names search) held (sym options) (sym binary)
+    (subst (λ s. InTree s (λ items. MatchSameLines search.search.matcher.tree asked.pattern.now)) (sym same)
+    (same_lines snapshot call request scope search asked.pattern.now is for)) known
+asked_for Old New stamps snapshot now call request scope search asked false same for is options binary held known =
+    still_asked Old New stamps now asked search held (sym options) (sym binary)
+    (subst (λ s. InTree s (λ items. MatchSameLines search.search.matcher.tree asked.pattern.now)) (sym same)
+    (same_lines snapshot call request scope search asked.pattern.now is for)) known
 
 -- what is known, and the stamps of a tree
 module _ (Holds : SearchedTree → Type 0) (stamps : Snapshot → Stamps) where

@@ -79,9 +79,17 @@ module _ (Knows : FileSearch → Type 0) (items : TreeItems) (call : ProjectCall
   SearchesFor true given later status = (later ≡ given) × (status ≢ 2 → ForSearch items call request
       (λ scope search. Knows (by_names search) → FindsInProject items scope search status))
 
+-- What is known has to hold for a search only if it is read: with --no-state it is not.
+abbrev pub IfRead : Request → (FileSearch → Type 0) → FileSearch → Type 0
+IfRead request Knows search = request.switches.state.read ≡ true → Knows search
+
+module _ (Knows : FileSearch → Type 0) (items : TreeItems) (call : ProjectCall) (request : Request) where
+  -- With --update nothing is printed.
   abbrev pub AnswersTask : Task → List ℕ → List ℕ → ℕ → Type 0
-  AnswersTask task.Search given later status = SearchesFor request.switches.silent given later status
+  AnswersTask task.Search given later status =
+      SearchesFor (IfRead request Knows) items call request request.switches.silent given later status
   AnswersTask task.Files given later status = ListsFor items call request given later status
+  AnswersTask task.Update given later status = (later ≡ given) × (status ≢ 2 → status ≡ 0)
   AnswersTask _ given later status = status ≡ 0
 
   abbrev pub AnswersRequest : List ℕ → List ℕ → ℕ → Type 0

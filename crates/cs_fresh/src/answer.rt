@@ -4,20 +4,21 @@ ghost use Rattle.cs_tree.specs.PathParts.{texts};
 ghost use Rattle.cs_listing.specs.FolderReads.{InTree};
 ghost use Rattle.cs_listing.specs.Models.{chosen_in};
 ghost use Rattle.cs_fresh.specs.Calls.{AnswersRequest, DoesProject, HasBase, IsProgramFor, IsScopeOf, IsSearchFor, ListsFor, SearchesFor, name_end as name_end', words_at as words_at'};
-ghost use Rattle.cs_fresh.specs.Knowledge.{HoldsFor};
+ghost use Rattle.cs_fresh.specs.Knowledge.{HoldsFor, asked_as};
 
 use crate::call::ProjectCall;
 use crate::fault::FreshFault;
 use crate::file_search::FileSearch;
-use crate::knowledge::Knowledge;
-use crate::project::{find_in_project, list_project, search_project};
+use crate::knowledge::{AskedSearch, Knowledge, NoKnowledge};
+use crate::project::{find_in_project, for_names, list_project, search_project};
 use crate::reports::print_unread;
 use crate::scope::Scope;
+use crate::unprinted::Unprinted;
 use cs_command::{HELP, Request, RequestFault, fault_line, read_request};
 use cs_listing::{Choices, Rules, TYPES, path_names, user_rules};
 use cs_match::Program;
 use cs_output::Output;
-use cs_project::{LineSearch, Surroundings, Task};
+use cs_project::{LineSearch, ShowOptions, Surroundings, Task};
 use cs_tree::{Look, Sink, write_all};
 use std::alloc::{AllocError, Global};
 
@@ -119,8 +120,15 @@ fn answer<T: Look, K: Knowledge, O: Output, E: Sink>(
         Task::Help => Ok(print(HELP.as_bytes(), out)?),
         Task::Version => Ok(print(VERSION, out)?),
         Task::Types => Ok(print_types(out)?),
-        Task::Files => list(call, request, tree, out, err),
-        Task::Search => search(call, request, tree, known, out, err),
+        Task::Files => list(call, request, tree, &mut NoKnowledge, out, err),
+        Task::Update => update(call, request, tree, known, err),
+        Task::Search => {
+            if request.switches.state.read {
+                search(call, request, tree, known, out, err)
+            } else {
+                search(call, request, tree, &mut NoKnowledge, out, err)
+            }
+        }
     }
 }
 
@@ -190,12 +198,13 @@ fn name_end(request: &Request) -> &'static [u8]
     }
 }
 
-/// Prints the names of the files.
+/// Prints the names of the files, and asks for each of them whether it is known.
 #[tactic(auto, using(crate::proofs::CallLemmas::lists_for))]
-fn list<T: Look, O: Output, E: Sink>(
+fn list<T: Look, K: Knowledge, O: Output, E: Sink>(
     call: &ProjectCall<'_>,
     request: &Request,
     tree: &mut T,
+    known: &mut K,
     out: &mut O,
     err: &mut E,
 ) -> Result<u8, FreshFault>
@@ -205,7 +214,25 @@ fn list<T: Look, O: Output, E: Sink>(
 {
     let words = words_at(call.alloc, call.words, &request.paths)?;
     let scope = scope_of(call, request, &words);
-    list_project(&scope, name_end(request), tree, out, err)
+    list_project(&scope, name_end(request), tree, known, out, err)
+}
+
+/// Asks for each file whether it is known, so that the others are learned, and prints nothing.
+fn update<T: Look, K: Knowledge, E: Sink>(
+    call: &ProjectCall<'_>,
+    request: &Request,
+    tree: &mut T,
+    known: &mut K,
+    err: &mut E,
+) -> Result<u8, FreshFault>
+    ensures status { IfOk result (λ status. InTree (T.snapshot tree.old)
+        (λ items. status ≢ 2 → status ≡ 0)) }
+    ensures keeps { T.snapshot tree.new ≡ T.snapshot tree.old }
+{
+    if request.updates {
+        known.begin_update(request.paths.is_empty())?;
+    }
+    list(call, request, tree, known, &mut Unprinted::new(), err)
 }
 
 /// The search for the pattern of a request.
@@ -232,6 +259,17 @@ fn files_for<'p, T: Look>(
     FileSearch::new(call.alloc, options, switches.files.binary, lines)
 }
 
+/// The options that knowledge is asked with.
+fn asked_options(silent: bool, files: &FileSearch<'_>) -> ShowOptions
+    ensures { result ≡ (asked_as silent files.now).options }
+{
+    if silent {
+        for_names(files.options)
+    } else {
+        files.options
+    }
+}
+
 /// Searches the files. With `-q` only the status says whether a line is marked.
 fn search<T: Look, K: Knowledge, O: Output, E: Sink>(
     call: &ProjectCall<'_>,
@@ -253,6 +291,13 @@ fn search<T: Look, K: Knowledge, O: Output, E: Sink>(
     let scope = scope_of(call, request, &words);
     let program = Program::compile(call.alloc, pattern)?;
     let files = files_for(call, request, &scope, &program, tree)?;
+    known.begin(&AskedSearch {
+        options: asked_options(request.switches.silent, &files),
+        binary: files.binary,
+        pattern,
+        updates: request.updates,
+        whole: request.paths.is_empty(),
+    })?;
     if request.switches.silent {
         return find_in_project(&scope, files, tree, known, err);
     }

@@ -1,14 +1,37 @@
 // What is known of files without reading them.
-ghost use Rattle.std.specs.Prelude.{IfOk};
-ghost use Rattle.cs_fresh.specs.Knowledge.{HoldsAsBefore, SearchedTree, SkipsNothingShown};
+ghost use Rattle.std.specs.Prelude.{IfOk, OnOk};
+ghost use Rattle.cs_fresh.specs.Knowledge.{HoldsAsBefore, HoldsIfAsked, SearchedTree, SkipsNothingShown};
 
+use cs_project::ShowOptions;
+use cs_syntax::Pattern;
 use cs_tree::Stamp;
 use std::alloc::AllocError;
+
+/// A search that knowledge is asked for.
+#[derive(Clone, Copy, Drop)]
+pub struct AskedSearch<'a> {
+    pub options: ShowOptions,
+    /// Binary files are searched as text (`-a`).
+    pub binary: bool,
+    pub pattern: &'a Pattern,
+    /// What is learned of the files may be kept.
+    pub updates: bool,
+    /// All files below the current folder are searched.
+    pub whole: bool,
+}
 
 /// What is known of the files of a project without reading them.
 pub trait Knowledge {
     /// What the knowledge holds for: a search of a tree.
     ghost Holds: { Self → SearchedTree → Type 0 };
+
+    /// Prepares for a search.
+    fn begin(&mut self, asked: &AskedSearch<'_>) -> Result<(), AllocError>
+        ensures begun { OnOk result (HoldsIfAsked asked.now (Holds self.old) (Holds self.new)) };
+
+    /// Prepares for a walk that searches nothing, so that the files that are not known are learned.
+    /// `whole` says whether it gives all files below the current folder.
+    fn begin_update(&mut self, whole: bool) -> Result<(), AllocError>;
 
     /// Whether the file at a path is skipped, since nothing is printed for it. Its stamp is the one
     /// that it has now.
@@ -23,6 +46,14 @@ pub struct NoKnowledge;
 
 impl Knowledge for NoKnowledge {
     ghost Holds = { λ _ _. Unit {0} };
+
+    fn begin(&mut self, _asked: &AskedSearch<'_>) -> Result<(), AllocError> {
+        Ok(())
+    }
+
+    fn begin_update(&mut self, _whole: bool) -> Result<(), AllocError> {
+        Ok(())
+    }
 
     fn skips(&mut self, _path: &str, _stamp: Option<Stamp>) -> Result<bool, AllocError> {
         Ok(false)

@@ -37,7 +37,7 @@ pub use answer::run_project;
 pub use call::{ProjectCall, UserFolders};
 pub use fault::FreshFault;
 pub use file_search::FileSearch;
-pub use knowledge::{Knowledge, NoKnowledge};
+pub use knowledge::{AskedSearch, Knowledge, NoKnowledge};
 pub use project::{find_in_project, list_project, search_project};
 pub use scope::Scope;
 pub use sink_output::SinkOutput;

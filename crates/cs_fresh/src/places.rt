@@ -176,10 +176,11 @@ impl<'a> NamedFolder<'_, 'a> {
     }
 
     /// Prints the names of the files below the folder.
-    pub(crate) fn list<T: Look, O: Output, E: Sink>(
+    pub(crate) fn list<T: Look, K: Knowledge, O: Output, E: Sink>(
         &self,
         listing: &mut NameListing<'_>,
         tree: &mut T,
+        known: &mut K,
         out: &mut O,
         err: &mut E,
     ) -> Result<(), FreshFault>
@@ -192,7 +193,7 @@ impl<'a> NamedFolder<'_, 'a> {
     {
         gives_in_order();
         let mut walk = self.walk(tree)?;
-        walk.list(listing, tree, out, err)
+        walk.list(listing, tree, known, out, err)
     }
 }
 
@@ -235,10 +236,11 @@ impl ScopeWord<'_, '_> {
     }
 
     /// Prints the names of the files that the word names.
-    pub(crate) fn list<T: Look, O: Output, E: Sink>(
+    pub(crate) fn list<T: Look, K: Knowledge, O: Output, E: Sink>(
         &self,
         listing: &mut NameListing<'_>,
         tree: &mut T,
+        known: &mut K,
         out: &mut O,
         err: &mut E,
     ) -> Result<(), FreshFault>
@@ -257,7 +259,7 @@ impl ScopeWord<'_, '_> {
                     path: named.path.as_str(),
                     word: self.word,
                 };
-                folder.list(listing, tree, out, err)
+                folder.list(listing, tree, known, out, err)
             }
             PathKind::File => Ok(print_name(self.word, listing.end, out)?),
             PathKind::Unread(fault) => listing.reports.unnamed(self.word, fault, err),

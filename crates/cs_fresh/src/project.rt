@@ -73,11 +73,12 @@ pub fn find_in_project<T: Look, K: Knowledge, E: Sink>(
 }
 
 /// Prints the names of the items of a scope, each with what ends it, and returns the exit status: 2
-/// after an error, or else 0.
-pub fn list_project<T: Look, O: Output, E: Sink>(
+/// after an error, or else 0. For each file of a walk it asks whether it is known.
+pub fn list_project<T: Look, K: Knowledge, O: Output, E: Sink>(
     scope: &Scope<'_>,
     end: &[u8],
     tree: &mut T,
+    known: &mut K,
     out: &mut O,
     err: &mut E,
 ) -> Result<u8, FreshFault>
@@ -90,12 +91,12 @@ pub fn list_project<T: Look, O: Output, E: Sink>(
         end,
         reports: Reports::new(scope.alloc),
     };
-    scope.list(&mut listing, tree, out, err)?;
+    scope.list(&mut listing, tree, known, out, err)?;
     Ok(status_of(listing.reports.wrong, true))
 }
 
 /// The options with which a text is read only up to its first marked line.
-fn for_names(options: ShowOptions) -> ShowOptions
+pub(crate) fn for_names(options: ShowOptions) -> ShowOptions
     ensures { result ≡ record options { mode = Mode.Names } }
 {
     ShowOptions {
@@ -192,10 +193,11 @@ impl<'a> Scope<'a> {
     }
 
     /// Prints the names of the items one after another.
-    fn list<T: Look, O: Output, E: Sink>(
+    fn list<T: Look, K: Knowledge, O: Output, E: Sink>(
         &self,
         listing: &mut NameListing<'_>,
         tree: &mut T,
+        known: &mut K,
         out: &mut O,
         err: &mut E,
     ) -> Result<(), FreshFault>
@@ -206,16 +208,17 @@ impl<'a> Scope<'a> {
         ensures keeps { T.snapshot tree.new ≡ T.snapshot tree.old }
     {
         if self.words.is_empty() {
-            return self.here().list(listing, tree, out, err);
+            return self.here().list(listing, tree, known, out, err);
         }
-        self.list_words(listing, tree, out, err)
+        self.list_words(listing, tree, known, out, err)
     }
 
     /// Prints the names of what the words name.
-    fn list_words<T: Look, O: Output, E: Sink>(
+    fn list_words<T: Look, K: Knowledge, O: Output, E: Sink>(
         &self,
         listing: &mut NameListing<'_>,
         tree: &mut T,
+        known: &mut K,
         out: &mut O,
         err: &mut E,
     ) -> Result<(), FreshFault>
@@ -228,7 +231,7 @@ impl<'a> Scope<'a> {
     {
         'words: for word in self.words {
             let named = ScopeWord { scope: *self, word };
-            named.list(listing, tree, out, err)?;
+            named.list(listing, tree, known, out, err)?;
         }
         Ok(())
     }

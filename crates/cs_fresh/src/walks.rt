@@ -109,11 +109,13 @@ impl FolderWalk<'_> {
         Ok(())
     }
 
-    /// Prints the names of the files that are left to the walk, in the order of their paths.
-    pub(crate) fn list<T: Look, O: Output, E: Sink>(
+    /// Prints the names of the files that are left to the walk, in the order of their paths. For
+    /// each it asks whether it is known, so that the others are learned.
+    pub(crate) fn list<T: Look, K: Knowledge, O: Output, E: Sink>(
         &mut self,
         listing: &mut NameListing<'_>,
         tree: &mut T,
+        known: &mut K,
         out: &mut O,
         err: &mut E,
     ) -> Result<(), FreshFault>
@@ -124,6 +126,7 @@ impl FolderWalk<'_> {
         ensures keeps { T.snapshot tree.new ≡ T.snapshot tree.old }
     {
         'files: while let Some(file) = self.next(tree, &mut listing.reports, err)? {
+            let _ = known.skips(file.path.as_str(), file.stamp)?;
             print_name(file.name.as_str(), listing.end, out)?;
         }
         Ok(())

@@ -21,6 +21,7 @@ no_switches = record {
   invert = false;
   pattern = record { literal = false; whole = false; lines = false };
   files = record { hidden = false; ignored = false; binary = false };
+  state = record { read = true; updated = true };
   number = None;
   named = None;
   form = record {
@@ -68,8 +69,11 @@ with_switch switches on.Number = record switches { number = Some true }
 with_switch switches on.NoNumber = record switches { number = Some false }
 with_switch switches on.WithName = record switches { named = Some true }
 with_switch switches on.Bare = record switches { named = Some false }
+with_switch switches on.NoUpdate = record switches { state = record switches.state { updated = false } }
+with_switch switches on.NoState = record switches { state = record { read = false; updated = false } }
 with_switch switches on.Files = record switches { task = task.Files }
 with_switch switches on.TypeList = record switches { task = task.Types }
+with_switch switches on.Update = record switches { task = task.Update }
 with_switch switches on.Help = record switches { task = task.Help }
 with_switch switches on.Version = record switches { task = task.Version }
 with_switch switches switch = with_form switches switch

@@ -41,7 +41,7 @@ pub use letter_case::{LetterCase, case_of};
 pub use named::{Named, Switch, Valued};
 pub use rows::Page;
 pub use search::LineSearch;
-pub use settings::{FileChoice, Limits, PatternStyle, Surroundings, Switches, Task};
+pub use settings::{FileChoice, Limits, PatternStyle, StateUse, Surroundings, Switches, Task};
 pub use source::print_file;
 pub use stream::{Ended, Streamed};
 pub use text::{print_lines, print_text};

@@ -14,6 +14,8 @@ pub enum Task {
     Files,
     /// The types of files are printed (`--type-list`).
     Types,
+    /// What later searches know of the files is updated (`--update`).
+    Update,
     /// The options are printed (`--help`).
     Help,
     /// The version is printed (`--version`).
@@ -42,6 +44,15 @@ pub struct FileChoice {
     pub binary: bool,
 }
 
+/// What is done with the state of a project: what earlier runs learned of its files.
+#[derive(Clone, Copy, Drop)]
+pub struct StateUse {
+    /// It is read (not with `--no-state`).
+    pub read: bool,
+    /// It is updated (neither with `--no-state` nor with `--no-update`).
+    pub updated: bool,
+}
+
 /// How many lines are marked and shown around.
 #[derive(Clone, Copy, Drop)]
 pub struct Limits {
@@ -62,6 +73,7 @@ pub struct Switches {
     pub invert: bool,
     pub pattern: PatternStyle,
     pub files: FileChoice,
+    pub state: StateUse,
     /// `-n` or `-N`.
     pub number: Option<bool>,
     /// `-H` or `-h`.
@@ -98,6 +110,10 @@ impl Switches {
                 ignored: false,
                 binary: false,
             },
+            state: StateUse {
+                read: true,
+                updated: true,
+            },
             number: None,
             named: None,
             form: LineForm {
@@ -133,8 +149,14 @@ impl Switches {
             Switch::NoNumber => self.number = Some(false),
             Switch::WithName => self.named = Some(true),
             Switch::Bare => self.named = Some(false),
+            Switch::NoUpdate => self.state.updated = false,
+            Switch::NoState => {
+                self.state.read = false;
+                self.state.updated = false;
+            }
             Switch::Files => self.task = Task::Files,
             Switch::TypeList => self.task = Task::Types,
+            Switch::Update => self.task = Task::Update,
             Switch::Help => self.task = Task::Help,
             Switch::Version => self.task = Task::Version,
             _ => self.set_form(switch),

@@ -45,7 +45,7 @@ returns-clause-request c =
       choices_of words files depth c.args.items.now,
       requested words c.args.items.now c.args.options.now _ (sym c.in_ok-limits.ensures)
           _ (sym c.in_ok-colour.ensures) depth (sym c.in_ok-depth.ensures) (shown c.in_ok-texts.texts) c.in_ok-texts.ensures
-          c.case_of.result c.case_of.ensures _ c.in_ok-pattern.ensures.pattern,
+          c.case_of.result c.case_of.ensures _ c.may_update.ensures _ c.in_ok-pattern.ensures.pattern,
       more_choices (choices_by files depth) (filter_map (choice_in words) c.args.items.now) (chosen_in c.args.choices)
           (chosen_in c.choose_kinds.new.choices) (chosen_in c.choose_names.new.choices) c.choose_kinds.ensures c.in_ok-choose_names.ensures.all,
     )

@@ -18,7 +18,7 @@ files-preserved g c =
           c.files.invariant.form c.files.invariant.taken
           (subst (λ file. GivesIn now c.files.self c.next.new.self file) c.in-Some.is c.in_ok-file.ensures.gives)
           (lists_file (g.T.Tree.snapshot c.args.tree.now) c.in-Some.file c.files.listing.end.now end given (g.O.Output.given c.files.out) later
-          c.as_str.result.now (ap (λ e. e.now) c.files.invariant.same.0) c.as_str.ensures.value c.in_ok-print_name.ensures);
+          c.as_str-in-Some.result.now (ap (λ e. e.now) c.files.invariant.same.0) c.as_str-in-Some.ensures.value c.in_ok-print_name.ensures);
     }
 
 pub returns-clause-listed : goal.returns-clause-listed

@@ -10,9 +10,8 @@ use Rattle.cs_tree.specs.declared.fault.IoFault.TheVariants.{Failed as IoFailed,
 use Rattle.cs_tree.proofs.GrowsLemmas.{Grows-same}
 use Rattle.cs_tree.proofs.PrefixLemmas.{prefix_written}
 use Rattle.cs_args.specs.Args.{OptionItem, option_items, first_fault, fault_or, search_job, grep_job, parse_args}
-use Rattle.cs_args.specs.JobView.{JobView, job_view}
+use Rattle.cs_args.specs.JobView.{JobView, job_view, GivesJob}
 use Rattle.cs_args.specs.Messages.{line_of}
-use Rattle.cs_args.specs.Settings.{GivesJob}
 use Rattle.cs_args.specs.declared.fault.Refusal.TheVariants.{Word as A_word}
 use Rattle.cs_args.specs.declared.fault.ToolFault.{ToolFault}
 use Rattle.cs_args.specs.declared.fault.WordFault.{WordFault}
@@ -27,8 +26,8 @@ use Rattle.cs_search.specs.declared.status.Status.{Status}
 use Rattle.cs_cindex.specs.OldIndex.{IsUnreadable, has_failed}
 use Rattle.cs_cindex.specs.Output.{UnreadPrints, before, after}
 use Rattle.cs_storage.specs.FileAfter.{IsGiven}
-use Rattle.cs_storage.specs.declared.fault.StorageFault.{StorageFault}
-use Rattle.cs_storage.specs.declared.fault.StorageFault.TheVariants.{Failed}
+use Rattle.cs_storage.specs.declared.folder.StorageFault.{StorageFault}
+use Rattle.cs_storage.specs.declared.folder.StorageFault.TheVariants.{Failed}
 use Rattle.cs_storage.specs.declared.update.IndexUpdate.TheVariants.{Keep}
 use Rattle.codesearch.specs.Program.{tree_of, EndsSearch, EndsUnread, IsUnreadBy, tool_of, tool_args, meaning, lacks_folder, word_line, reading_line, writing_line, IndexFile, early_line, arg_at, opened_file, Surroundings, IsUntouched, Refuses, DoesJob, RunsAfter, Runs, IsCall, may_update, update_of}
 use Rattle.codesearch.specs.Running.{AnswersJob, EndsRead, RefusesArgs}

@@ -7,9 +7,9 @@ use Rattle.cs_args.specs.declared.jobs.Tool.TheVariants.{Cindex, Csearch, Cgrep}
 use Rattle.cs_storage.specs.FileAfter.{file_after, IsChange}
 use Rattle.cs_storage.specs.Storing.{Folder, Left, Moves, LeavesFiles, HasBytesOf, Looks, IsFree, Fills, IsHeld, IsRefusedBy, Begins, Updates, left_after, replaced_after}
 use Rattle.cs_storage.specs.NewFiles.{folder_filled, FillsOn}
-use Rattle.cs_storage.specs.declared.new_file.NewFile.{NewFile}
+use Rattle.cs_storage.specs.declared.folder.NewFile.{NewFile}
 use Rattle.cs_storage.proofs.FillLemmas.{fills, fills_keeps, stays_held}
-use Rattle.cs_storage.specs.declared.fault.StorageFault.{StorageFault}
+use Rattle.cs_storage.specs.declared.folder.StorageFault.{StorageFault}
 use Rattle.cs_storage.specs.declared.update.IndexUpdate.{IndexUpdate}
 use Rattle.cs_storage.specs.declared.update.IndexUpdate.TheVariants.{Keep, Write, Remove}
 use Rattle.cs_cindex.specs.OldIndex.{IsIndex, IsUnreadable}
@@ -18,7 +18,7 @@ use Rattle.codesearch.specs.Execution.{IsReadIndex, LeavesFile, ReplacesFile, St
 use Rattle.codesearch.specs.Opened.{StoresOpened, Finishes, ExecutesOpened}
 use Rattle.cs_args.specs.declared.fault.WordFault.{WordFault}
 use Rattle.cs_args.specs.declared.jobs.Job.{Job}
-use Rattle.cs_storage.specs.declared.fault.StorageFault.TheVariants.{Failed}
+use Rattle.cs_storage.specs.declared.folder.StorageFault.TheVariants.{Failed}
 use Rattle.codesearch.specs.declared.call.Call.{Call}
 use Rattle.codesearch.specs.declared.running.FoundFile.{FoundFile}
 use Rattle.codesearch.specs.declared.outcome.Outcome.{Outcome}

@@ -5,8 +5,8 @@ use Rattle.cs_args.specs.declared.jobs.Tool.{Tool}
 use Rattle.cs_args.specs.declared.jobs.Tool.TheVariants.{Cgrep}
 use Rattle.cs_storage.specs.FileAfter.{file_after, IsChange}
 use Rattle.cs_storage.specs.Storing.{Folder, Moves, IsFree, IsRefusedBy, left_after}
-use Rattle.cs_storage.specs.declared.fault.StorageFault.{StorageFault}
-use Rattle.cs_storage.specs.declared.fault.StorageFault.TheVariants.{Failed}
+use Rattle.cs_storage.specs.declared.folder.StorageFault.{StorageFault}
+use Rattle.cs_storage.specs.declared.folder.StorageFault.TheVariants.{Failed}
 use Rattle.cs_storage.specs.declared.update.IndexUpdate.{IndexUpdate}
 use Rattle.cs_storage.specs.declared.update.IndexUpdate.TheVariants.{Keep}
 use Rattle.codesearch.specs.Program.{IndexFile, Surroundings, Runs, Refuses, may_update, update_of, writing_line}

@@ -1,7 +1,7 @@
 -- What the program does once the index file is opened.
 use Rattle.std.specs.Prelude.{◌≡◌, ℕ, Bool, true, List, Option, Some, None, IfSome, if◌then◌else◌}
 use Rattle.cs_storage.specs.Storing.{Folder, Moves, IsFree, IsRefusedBy, LeavesAsked}
-use Rattle.cs_storage.specs.declared.fault.StorageFault.TheVariants.{Failed}
+use Rattle.cs_storage.specs.declared.folder.StorageFault.TheVariants.{Failed}
 use Rattle.cs_storage.specs.declared.update.IndexUpdate.{IndexUpdate}
 use Rattle.codesearch.specs.Program.{IndexFile, Surroundings, Runs, may_update, update_of}
 use Rattle.codesearch.specs.Execution.{ReplacesFile, Stores, EndsWith}

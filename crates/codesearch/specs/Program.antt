@@ -11,9 +11,8 @@ use Rattle.cs_tree.specs.StreamModels.{SourceModel}
 use Rattle.cs_tree.specs.TakesPrefix.{EndsAfter}
 use Rattle.cs_args.specs.Args.{parse_args}
 use Rattle.cs_args.specs.FileFaults.{tool_name}
-use Rattle.cs_args.specs.JobView.{JobView, job_view}
+use Rattle.cs_args.specs.JobView.{JobView, job_view, GivesJob}
 use Rattle.cs_args.specs.Messages.{line_of}
-use Rattle.cs_args.specs.Settings.{GivesJob}
 use Rattle.cs_args.specs.declared.fault.CindexFault.{CindexFault}
 use Rattle.cs_args.specs.declared.fault.CindexFault.TheVariants.{BadPath}
 use Rattle.cs_args.specs.declared.fault.Refusal.TheVariants.{Word as A_word, Tool as A_tool, Index as An_index}
@@ -51,8 +50,8 @@ use Rattle.codesearch.specs.declared.outcome.ProgramFault.TheVariants.{FirstArg,
 use Rattle.codesearch.specs.declared.running.FoundFile.{FoundFile}
 use Rattle.codesearch.specs.declared.running.World.{World}
 use Rattle.cs_storage.specs.FileAfter.{file_after}
-use Rattle.cs_storage.specs.declared.fault.StorageFault.{StorageFault}
-use Rattle.cs_storage.specs.declared.fault.StorageFault.TheVariants as storage
+use Rattle.cs_storage.specs.declared.folder.StorageFault.{StorageFault}
+use Rattle.cs_storage.specs.declared.folder.StorageFault.TheVariants as storage
 use Rattle.cs_storage.specs.declared.update.IndexUpdate.{IndexUpdate}
 use Rattle.cs_storage.specs.declared.update.IndexUpdate.TheVariants.{Keep}
 

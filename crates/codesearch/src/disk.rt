@@ -48,15 +48,17 @@ pub(crate) fn disk_world<'p>(
 /// The disk without the file that standard output goes to, for a search of a project.
 pub(crate) fn project_tree(rt: &HostRuntime) -> Result<DiskTree<HostRuntime>, AllocError> {
     let mut tree = DiskTree::new(rt.clone()?);
+    tree.shorten_paths()?;
     tree.exclude_output();
     Ok(tree)
 }
 
-/// The folders of a user's settings, as git finds them: the home folder, and that of settings.
+/// The folders of a user: the home folder, that of settings, as git finds it, and that of caches.
 #[derive(Drop)]
 pub(crate) struct SettingFolders {
     pub(crate) home: String,
     pub(crate) config: String,
+    pub(crate) cache: String,
 }
 
 impl SettingFolders {
@@ -65,11 +67,26 @@ impl SettingFolders {
         let Some(home) = folder_in(rt, "HOME")? else {
             return Ok(None);
         };
-        let config = match folder_in(rt, "XDG_CONFIG_HOME")? {
-            Some(config) => config,
-            None => format!(in rt.alloc(); "{home}/.config")?,
-        };
-        Ok(Some(SettingFolders { home, config }))
+        let config = folder_or(rt, "XDG_CONFIG_HOME", home.as_str(), ".config")?;
+        let cache = folder_or(rt, "XDG_CACHE_HOME", home.as_str(), ".cache")?;
+        Ok(Some(SettingFolders {
+            home,
+            config,
+            cache,
+        }))
+    }
+}
+
+/// The folder that a variable of the environment names, or else one in the home folder.
+fn folder_or(
+    rt: &HostRuntime,
+    variable: &str,
+    home: &str,
+    name: &str,
+) -> Result<String, AllocError> {
+    match folder_in(rt, variable)? {
+        Some(folder) => Ok(folder),
+        None => format!(in rt.alloc(); "{home}/{name}"),
     }
 }
 

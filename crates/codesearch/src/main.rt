@@ -15,10 +15,13 @@
 //!
 //! `main` gives them the arguments, the disk, the standard streams (`disk.rt`) and the `DiskFolder`
 //! of `cs_storage`, whose file is opened once as a `DiskStore`.
+//!
+//! `cs` is `run_project` of `cs_fresh` over the disk (`project.rt`), with the state of the project
+//! as its knowledge: `state_folder.rt` says where that is, and `project_state.rt` makes it after
+//! the output, or takes it away.
 #![tactic(auto)]
 
-ghost use Rattle.std.specs.Prelude.{◌≡◌, true};
-ghost use Rattle.cs_tree.specs.Cover.{is_absolute};
+ghost use Rattle.std.specs.Prelude.{◌≡◌};
 ghost use Rattle.codesearch.specs.Program.{IsCall, exit_status};
 
 mod args;
@@ -29,25 +32,26 @@ mod given;
 mod laws;
 mod outcome;
 mod progress;
+mod project;
+mod project_state;
 mod running;
+mod state_folder;
 mod streams;
 
 use args::{program_path, read_args};
-use call::{Call, absolute_folder, project_args};
+use call::{Call, project_args};
 use cs_args::Tool;
-use cs_fresh::{FreshFault, NoKnowledge, ProjectCall, SinkOutput, UserFolders, run_project};
-use cs_tree::{IoFault, Sink, StdSink, write_all};
-use disk::{
-    DiskIndexFile, SettingFolders, buffered_output, disk_world, is_output_piped, project_tree,
-};
+use cs_tree::{Sink, StdSink};
+use disk::{DiskIndexFile, disk_world};
 use execution::{execute, execute_cgrep};
 use given::Given;
 use outcome::{Outcome, ProgramFault};
 use progress::ProgressLine;
+use project::search_on_disk;
 use running::FoundFile;
 use std::alloc::AllocError;
 use std::env;
-use std::io::{ErrorKind, IsTerminal};
+use std::io::ErrorKind;
 use std::process::ExitCode;
 use streams::hold_streams;
 
@@ -99,7 +103,7 @@ fn current_folder(rt: &HostRuntime) -> Result<Option<String>, AllocError> {
 fn execute_on_disk(rt: &HostRuntime, call: &Call<'_>) -> Result<u8, AllocError>
     requires { IsCall call.now }
 {
-    let progress = ProgressLine::new(rt, call.tool == Tool::Cindex)?;
+    let progress = ProgressLine::new(rt, "cindex", call.tool == Tool::Cindex)?;
     let mut world = disk_world(rt, call, &progress)?;
     if call.tool == Tool::Cgrep {
         let outcome = execute_cgrep(call, &mut world);
@@ -114,72 +118,6 @@ fn execute_on_disk(rt: &HostRuntime, call: &Call<'_>) -> Result<u8, AllocError>
     let outcome = execute(call, &mut disk.folder, &mut file, &mut world);
     progress.erase();
     Ok(end(rt, &mut world.out, &outcome))
-}
-
-/// Does what the arguments of `cs` ask for, and returns the exit status.
-#[inline(never)]
-fn search_on_disk(rt: &HostRuntime, given: &Given, words: &[String]) -> Result<u8, AllocError> {
-    if given.has_non_text {
-        let number = words.len() + 1;
-        let line = format!(in rt.alloc(); "cs: word {number} is not text\n")?;
-        return Ok(refuse_search(rt, line.as_str()));
-    }
-    let Some(folder) = absolute_folder(given) else {
-        return Ok(refuse_search(rt, "cs: no current folder\n"));
-    };
-    let settings = SettingFolders::of_environment(rt)?;
-    search_project(rt, words, folder, &settings)
-}
-
-/// Prints the line of an error, and returns the exit status.
-fn refuse_search(rt: &HostRuntime, line: &str) -> u8 {
-    let _ = write_all(&mut StdSink::new(rt.stderr()), line.as_bytes());
-    2
-}
-
-/// Does what the arguments of `cs` ask for, over the disk and the standard streams, and returns the
-/// exit status.
-#[inline(never)]
-fn search_project<'a>(
-    rt: &HostRuntime,
-    words: &'a [String],
-    folder: &'a str,
-    settings: &'a Option<SettingFolders>,
-) -> Result<u8, AllocError>
-    requires { is_absolute folder.now ≡ true }
-{
-    let user = match settings {
-        Some(folders) => Some(UserFolders {
-            home: folders.home.as_str(),
-            config: folders.config.as_str(),
-        }),
-        None => None,
-    };
-    let terminal = rt.stdout().is_terminal();
-    let call = ProjectCall {
-        alloc: rt.alloc(),
-        words,
-        folder,
-        user,
-        terminal,
-    };
-    let mut tree = project_tree(rt)?;
-    let mut out = SinkOutput::new(buffered_output(rt)?, terminal);
-    let mut err = StdSink::new(rt.stderr());
-    let answer = run_project(&call, &mut tree, &mut NoKnowledge, &mut out, &mut err);
-    let flushed = out.flush();
-    if out.fault() == Some(IoFault::Failed) || flushed.is_err() {
-        // A pipe whose reader has gone needs no line.
-        if is_output_piped(rt) {
-            return Ok(2);
-        }
-        return Ok(refuse_search(rt, "cs: output failed\n"));
-    }
-    match answer {
-        Ok(status) => Ok(status),
-        Err(FreshFault::Write) => Ok(2),
-        Err(FreshFault::Memory) => Err(AllocError),
-    }
 }
 
 /// Ends a run: prints what is left in the buffer of standard output, and the line of an error.

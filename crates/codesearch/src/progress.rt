@@ -1,4 +1,4 @@
-// A line on a terminal that says how far `cindex` is, for a person who waits. It belongs to no
+// A line on a terminal that says how far an index is, for a person who waits. It belongs to no
 // output of the tool: it is written past the sinks, and is removed before one of them is written
 // to.
 
@@ -18,6 +18,8 @@ const ERASE: &str = "\r                                                  \r";
 #[derive(Drop)]
 pub(crate) struct ProgressLine {
     rt: HostRuntime,
+    /// The name of the tool.
+    tool: &'static str,
     /// When a line was written last, or the start. None if none is ever written.
     last: Cell<Option<Instant>>,
     is_shown: Cell<bool>,
@@ -29,7 +31,11 @@ pub(crate) struct ProgressLine {
 impl ProgressLine {
     /// The progress of a job. Lines are written if they are wanted and standard error is a
     /// terminal.
-    pub(crate) fn new(rt: &HostRuntime, wanted: bool) -> Result<ProgressLine, AllocError> {
+    pub(crate) fn new(
+        rt: &HostRuntime,
+        tool: &'static str,
+        wanted: bool,
+    ) -> Result<ProgressLine, AllocError> {
         let start = if wanted && rt.stderr().is_terminal() {
             Instant::now(rt).ok()
         } else {
@@ -37,6 +43,7 @@ impl ProgressLine {
         };
         Ok(ProgressLine {
             rt: rt.clone()?,
+            tool,
             last: Cell::new(start),
             is_shown: Cell::new(false),
             paths: Cell::new(0),
@@ -75,10 +82,11 @@ impl ProgressLine {
     fn line(&self) -> Result<String, AllocError> {
         let (paths, files, bytes) = (self.paths.get(), self.files.get(), self.bytes.get());
         let megabytes = bytes / 1_000_000;
+        let tool = self.tool;
         if files == 0 {
-            format!(in self.rt.alloc(); "{ERASE}cindex: {paths} paths found")
+            format!(in self.rt.alloc(); "{ERASE}{tool}: {paths} paths found")
         } else {
-            format!(in self.rt.alloc(); "{ERASE}cindex: {files} files, {megabytes} MB read")
+            format!(in self.rt.alloc(); "{ERASE}{tool}: {files} files, {megabytes} MB read")
         }
     }
 

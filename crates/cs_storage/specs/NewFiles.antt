@@ -1,7 +1,7 @@
 -- FILE~ as an output.
 use Rattle.std.specs.Prelude.{ℕ, Option}
 use Rattle.cs_storage.specs.Storing.{Folder, Moves, Fills}
-use Rattle.cs_storage.specs.declared.new_file.NewFile.{NewFile}
+use Rattle.cs_storage.specs.declared.folder.NewFile.{NewFile}
 
 -- the current folder
 abbrev pub folder_filled : {F : Type 0} → NewFile F → F

@@ -1,6 +1,6 @@
 -- The two halves of an update.
 use Rattle.std.specs.Prelude.{◌≡◌, ℕ, List, [], ◌∷◌, ◌++◌, Option, Some, None, IfOk, IfErr, Result, Ok, Err}
-use Rattle.cs_storage.specs.declared.fault.StorageFault.{StorageFault}
+use Rattle.cs_storage.specs.declared.folder.StorageFault.{StorageFault}
 use Rattle.cs_storage.specs.Storing.{Folder, Left, FillsOwn, Fails, left_whole, whole, IsFree}
 
 -- What a crash may leave has this outcome more.

@@ -6,8 +6,8 @@
 -- docs/PROMISES.md, "Storing"; docs/DECISIONS.md, "The index file".
 use Rattle.std.specs.Prelude.{◌≡◌, ◌⊎◌, ℕ, Bool, true, false, List, [], ◌∷◌, ◌++◌, Option, Some, None, IsSome, IsSomeAnd, IfSome, MatchOption, IfOk, IfErr, Result, Ok, Err, if◌then◌else◌}
 use Rattle.cs_tree.specs.Failures.{next_count}
-use Rattle.cs_storage.specs.declared.fault.StorageFault.{StorageFault}
-use Rattle.cs_storage.specs.declared.fault.StorageFault.TheVariants.{Failed}
+use Rattle.cs_storage.specs.declared.folder.StorageFault.{StorageFault}
+use Rattle.cs_storage.specs.declared.folder.StorageFault.TheVariants.{Failed}
 use Rattle.cs_storage.specs.declared.update.IndexUpdate.{IndexUpdate}
 use Rattle.cs_storage.specs.declared.update.IndexUpdate.TheVariants.{Keep, Write, Remove}
 use Rattle.cs_storage.specs.FileAfter.{file_after, IsChange}

@@ -1,15 +1,13 @@
-// The index file on the disk, and FILE~ beside it.
-ghost use Rattle.std.specs.Prelude.{◌≡◌, length};
+// The index file on the disk, its rights, FILE~ beside it, and a FILE~ that a killed run left.
+ghost use Rattle.std.specs.Prelude.{◌≡◌, length, ◌<◌};
+ghost use Rattle.cs_storage.specs.Rights.{IsKeptMode};
 
-use crate::fault::StorageFault;
-use crate::folder::IndexFolder;
+use crate::folder::{IndexFolder, StorageFault};
 use crate::index_paths::{IndexPaths, folder_of};
-use crate::rights::kept_mode;
-use crate::stale::{check_same_file, is_same, remove_stale};
 use cs_output::Sent;
 use cs_tree::{DiskStore, IoFault, Store};
 use std::fs::{self, File, Metadata, Permissions, TryLockError};
-use std::io::{self, ErrorKind, Write};
+use std::io::{self, ErrorKind, Read, Write};
 use std::os::unix::fs::{MetadataExt, OpenOptionsExt, PermissionsExt, fchown};
 
 /// One more than the maximum size of an index. A file of this size is not opened.
@@ -54,6 +52,26 @@ impl DiskFolder {
             given: Sent::new(),
             written: 0,
             failure: None,
+        }
+    }
+
+    /// The time that the file system gave FILE~ when it was made, in nanoseconds since 1970. None
+    /// if FILE~ is not held, or was made before 1970.
+    pub fn moment(&self) -> Option<u64> {
+        let made = self.temp().ok()?.metadata().ok()?;
+        let seconds = u64::try_from(made.mtime()).ok()?;
+        let nanoseconds = u64::try_from(made.mtime_nsec()).ok()?;
+        seconds.checked_mul(1_000_000_000)?.checked_add(nanoseconds)
+    }
+
+    /// Opens FILE once more. Returns an error unless it is the file that `look` opened.
+    pub fn open_again(&self) -> Result<DiskIndex, StorageFault> {
+        let opened = fs::open(&self.rt, self.paths.file()?)?;
+        match &self.seen {
+            Some(seen) if is_same(&opened.metadata()?, seen) => {
+                Ok(DiskIndex(DiskStore::new(opened)?))
+            }
+            _ => Err(StorageFault::Failed),
         }
     }
 
@@ -218,6 +236,17 @@ impl Store for DiskIndex {
     }
 }
 
+/// The mode of a file that replaces one with this mode: its owner keeps their rights, and nobody
+/// else gets more than everybody had.
+pub fn kept_mode(mode: u32) -> u32
+    ensures kept { IsKeptMode mode result }
+    ensures bound { result < 512 }
+{
+    let owner = mode / 64 % 8;
+    let common = owner & (mode / 8 % 8) & (mode % 8);
+    owner * 64 + common * 8 + common
+}
+
 /// Whether it is a regular file that is not too long for an index.
 fn is_readable(there: &Metadata) -> bool {
     there.is_file() && there.len() < TOO_LONG
@@ -249,4 +278,84 @@ fn sync_folder(rt: &HostRuntime, file: &str) {
     if let Ok(opened) = fs::open(rt, folder_of(file)) {
         let _ = opened.sync_all();
     }
+}
+
+/// The first bytes of an index.
+const MAGIC: &[u8] = b"csearch index 1\n";
+
+/// Removes a FILE~ that a killed process left, if it is not locked. Nothing else is removed: a
+/// regular file that is not ours, or does not begin as an index, is `Leftover`, whose line asks for
+/// its removal.
+fn remove_stale(rt: &HostRuntime, path: &str, seen: Option<&Metadata>) -> Result<(), StorageFault> {
+    match fs::symlink_metadata(rt, path) {
+        Ok(there) if there.is_file() => {
+            let stale = open_unlocked(rt, path, &there)?;
+            if !is_stale(rt, &there, seen) || !begins_as_index(&stale)? {
+                return Err(StorageFault::Leftover);
+            }
+            check_same_file(rt, path, &stale)?;
+            Ok(fs::remove_file(rt, path)?)
+        }
+        Ok(_) => Err(StorageFault::Failed),
+        Err(error) if error.kind() == ErrorKind::NotFound => Ok(()),
+        Err(error) => Err(StorageFault::from(error)),
+    }
+}
+
+/// Opens and locks a file that is at FILE~. It is `Leftover` if that fails, unless another process
+/// has locked it. The file is opened for reading and writing, since the opening of a pipe, which
+/// may be there by now, then does not block.
+fn open_unlocked(rt: &HostRuntime, path: &str, there: &Metadata) -> Result<File, StorageFault> {
+    let opened = match File::options().read(true).write(true).open(rt, path) {
+        Ok(opened) => opened,
+        Err(error) if error.kind() == ErrorKind::PermissionDenied => {
+            return Err(StorageFault::Leftover);
+        }
+        Err(error) => return Err(StorageFault::from(error)),
+    };
+    let found = opened.metadata()?;
+    // A pipe may have the number of the removed file, and its read would wait.
+    if !found.is_file() || !is_same(there, &found) {
+        return Err(StorageFault::Failed);
+    }
+    match opened.try_lock() {
+        Ok(()) => Ok(opened),
+        Err(TryLockError::WouldBlock) => Err(StorageFault::Failed),
+        Err(TryLockError::Error(_)) => Err(StorageFault::Leftover),
+    }
+}
+
+/// Whether a process of this user may have left the file: one with one link that belongs to the
+/// user of this process, by `/proc/self`, or to the owner of FILE: to whom root gives the file, or
+/// a file system that maps owners.
+fn is_stale(rt: &HostRuntime, there: &Metadata, seen: Option<&Metadata>) -> bool {
+    let is_left = there.nlink() <= 1;
+    let is_ours = match fs::metadata(rt, "/proc/self") {
+        Ok(process) => there.uid() == process.uid(),
+        Err(_) => false,
+    };
+    is_left && (is_ours || seen.is_some_and(|seen| there.uid() == seen.uid()))
+}
+
+/// Whether a killed run may have left these bytes: none, the first bytes of an index, or zeros,
+/// where the system kept the length of a file and lost its bytes.
+fn begins_as_index(mut stale: &File) -> io::Result<bool> {
+    let mut first = [0u8; MAGIC.len()];
+    let len = stale.read(&mut first)?;
+    let first = &first[..len];
+    Ok(MAGIC.starts_with(first) || first.iter().all(|byte| *byte == 0))
+}
+
+/// Fails unless the open file still has this name: another process may have removed it before the
+/// lock was taken, and in a folder that is open to all anybody may at any time.
+fn check_same_file(rt: &HostRuntime, path: &str, opened: &File) -> io::Result<()> {
+    let there = fs::symlink_metadata(rt, path)?;
+    if !is_same(&there, &opened.metadata()?) {
+        return Err(io::Error::from(ErrorKind::WouldBlock));
+    }
+    Ok(())
+}
+
+fn is_same(one: &Metadata, other: &Metadata) -> bool {
+    one.dev() == other.dev() && one.ino() == other.ino()
 }

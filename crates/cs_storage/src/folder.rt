@@ -1,9 +1,15 @@
-// The index file and its surroundings.
-ghost use Rattle.std.specs.Prelude.{◌≡◌, ◌++◌, ℕ, List, [], Option, None, IfOk, IfSome, OnOk};
+// The index file and its surroundings, why it cannot be read or written, and FILE~ as an output.
+ghost use Rattle.std.specs.Prelude.{◌≡◌, ◌++◌, ℕ, List, [], Option, None, IfOk, IfSome, OnOk, ◌≢◌, ◌⊎◌, ◌↔◌, Some, pos, refl};
+ghost use Rattle.std.specs.IoError.{error_kind, raw_os_error};
+ghost use Rattle.std.proofs.Common.{◌∙◌};
 ghost use Rattle.cs_storage.specs.Storing.{Folder, Moves, Looks, Claims, Compares, Fills, Syncs, Renames, Removes, Releases, IsHeld};
+ghost use Rattle.cs_storage.specs.declared.folder.StorageFault.TheVariants.{Memory};
+ghost use Rattle.cs_storage.specs.NewFiles.{folder_filled, reference_filled, FillsOn};
 
-use crate::fault::StorageFault;
-use cs_tree::Store;
+use cs_output::Output;
+use cs_tree::{Store, TreeFault};
+use std::alloc::{AllocError, AllocFailed};
+use std::io::{self, ErrorKind};
 
 /// The index file and its surroundings: FILE, and FILE~ beside it, as one run sees and changes
 /// them.
@@ -55,4 +61,105 @@ pub trait IndexFolder {
     /// Takes FILE~ away.
     fn release(&mut self)
         ensures { Moves Releases (model self.old) (model self.new) };
+}
+
+/// Why the index file cannot be read or written.
+#[derive(Clone, Copy, Debug, PartialEq, Eq)]
+pub enum StorageFault {
+    /// A call of the system failed, or another run writes the index.
+    Failed,
+    /// At FILE~ there is a file that this run may not take away.
+    Leftover,
+    /// The process or the system can open no more files.
+    Descriptors,
+    /// An allocation failed.
+    Memory,
+}
+
+/// The error of the system if the process can open no more files (EMFILE).
+const PROCESS_DESCRIPTORS: i32 = 24;
+
+/// The error of the system if no process can open more files (ENFILE).
+const SYSTEM_DESCRIPTORS: i32 = 23;
+
+impl From<io::Error> for StorageFault {
+    fn from(error: io::Error) -> StorageFault
+        ensures descriptors { result ≡ StorageFault.Descriptors ↔
+            ((raw_os_error error ≡ Some (pos 24)) ⊎ (raw_os_error error ≡ Some (pos 23))) }
+        ensures memory { result ≡ StorageFault.Memory → error_kind error ≡ ErrorKind.OutOfMemory }
+        ensures failed { result ≡ StorageFault.Failed → error_kind error ≢ ErrorKind.OutOfMemory }
+        ensures leftover { result ≢ StorageFault.Leftover }
+    {
+        if let Some(PROCESS_DESCRIPTORS | SYSTEM_DESCRIPTORS) = error.raw_os_error() {
+            return StorageFault::Descriptors;
+        }
+        match error.kind() {
+            ErrorKind::OutOfMemory => StorageFault::Memory,
+            _ => StorageFault::Failed,
+        }
+    }
+}
+
+impl From<TreeFault> for StorageFault {
+    fn from(fault: TreeFault) -> StorageFault
+        ensures memory { fault ≡ TreeFault.Memory → result ≡ StorageFault.Memory }
+        ensures failed { fault ≢ TreeFault.Memory → result ≡ StorageFault.Failed }
+    {
+        match fault {
+            TreeFault::Memory => StorageFault::Memory,
+            _ => StorageFault::Failed,
+        }
+    }
+}
+
+impl From<AllocError> for StorageFault {
+    ghost from_gives = { λ _ fault. fault ≡ Memory };
+
+    fn from(_refused: AllocError) -> StorageFault {
+        StorageFault::Memory
+    }
+}
+
+impl<T: Drop> From<AllocFailed<T>> for StorageFault {
+    ghost from_gives = { λ _ fault. fault ≡ Memory };
+
+    fn from(_refused: AllocFailed<T>) -> StorageFault {
+        StorageFault::Memory
+    }
+}
+
+/// FILE~ of a folder as an output.
+#[derive(Drop)]
+pub struct NewFile<'a, F> {
+    folder: &'a mut F,
+}
+
+impl<'a, F: IndexFolder> NewFile<'a, F> {
+    /// An output that appends to FILE~. Allocates nothing.
+    pub fn new(folder: &'a mut F) -> NewFile<'a, F>
+        ensures same_reference { reference_filled result ≡ folder.entry.ghost_name }
+        ensures same_folder { folder_filled result ≡ folder.old }
+    {
+        NewFile { folder }
+    }
+}
+
+impl<'a, F: IndexFolder> Output for NewFile<'a, F> {
+    ghost given = { λ f. F.given (folder_filled f) };
+
+    ghost Keeps = { λ f g. (reference_filled g ≡ reference_filled f)
+        × FillsOn (F.model (folder_filled f)) (F.model (folder_filled g)) };
+
+    ghost keeps_refl = { λ _. (refl, λ start fills. fills) };
+
+    ghost keeps_trans = { λ x y z first next. (
+      next.0 ∙ first.0,
+      λ start fills. next.1 start (first.1 start fills),
+    ) };
+
+    /// An error of the file is reported by `sync`.
+    fn append(&mut self, bytes: &[u8]) -> Result<(), AllocError> {
+        self.folder.append(bytes);
+        Ok(())
+    }
 }

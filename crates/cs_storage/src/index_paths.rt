@@ -1,7 +1,7 @@
 // The paths of the index file and of FILE~.
-use crate::fault::StorageFault;
+use crate::folder::StorageFault;
 use cs_tree::{covers, is_absolute};
-use std::alloc::AllocError;
+use std::alloc::{AllocError, Global};
 use std::env::{self, VarError};
 use std::fs;
 use std::path::Path;
@@ -36,6 +36,15 @@ impl IndexPaths {
             }),
             Err(fault) => IndexPaths::unusable(rt, name.as_str(), fault),
         }
+    }
+
+    /// A file with this path. It is for a path that leads through no link that another user made.
+    pub fn of_file(alloc: Global, file: &str) -> Result<IndexPaths, AllocError> {
+        Ok(IndexPaths {
+            name: String::from_str(alloc, file)?,
+            temp: format!(in alloc; "{file}~")?,
+            file: Ok(String::from_str(alloc, file)?),
+        })
     }
 
     fn unusable(

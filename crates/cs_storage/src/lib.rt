@@ -13,26 +13,16 @@
 //! is the mode of a new file.
 //!
 //! `DiskFolder` is the `IndexFolder` of the disk. It has no model: `IndexPaths` are the paths of
-//! `FILE`, where links end, and of `FILE~`, and `src/stale.rt` takes away a `FILE~` that a killed
-//! run left.
+//! `FILE`, where links end, and of `FILE~`. A `FILE~` that a killed run left is taken away.
 #![tactic(auto)]
 
 mod disk_folder;
-mod fault;
 mod folder;
 mod index_paths;
 pub mod laws;
-mod new_file;
-mod rights;
-mod stale;
 mod update;
-mod updating;
 
-pub use disk_folder::{DiskFolder, DiskIndex};
-pub use fault::StorageFault;
-pub use folder::IndexFolder;
+pub use disk_folder::{DiskFolder, DiskIndex, kept_mode};
+pub use folder::{IndexFolder, NewFile, StorageFault};
 pub use index_paths::IndexPaths;
-pub use new_file::NewFile;
-pub use rights::kept_mode;
-pub use update::IndexUpdate;
-pub use updating::{begin_update, finish_update};
+pub use update::{IndexUpdate, begin_update, finish_update, replace_file};

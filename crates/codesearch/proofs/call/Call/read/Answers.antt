@@ -1,7 +1,7 @@
 use Rattle.std.proofs.Common.{rules, refl, ◌≡◌, map, string_bytes, subst}
 use Rattle.std.specs.Prelude.{unwrap_or, []}
 use Rattle.cs_args.specs.Args.{parse_args}
-use Rattle.cs_args.specs.Settings.{GivesJob}
+use Rattle.cs_args.specs.JobView.{GivesJob}
 use Rattle.codesearch.specs.Program.{tool_args, absolute_folder}
 use Rattle.codesearch.proofs.CallLemmas.{gives_job}
 use Rattle.codesearch.proofs.call.Call.read.Goals as goal

@@ -1,0 +1,140 @@
+// Where the state of a project is kept.
+//
+// A project may be hostile, so nothing of another user is read or written: the folder `.git`, that
+// of the state, and the state itself are the user's own, and no links. What a file `.git` names is
+// not written to.
+
+use cs_storage::IndexPaths;
+use hex::encode;
+use sha1::Sha1;
+use std::alloc::{AllocError, Global};
+use std::fs::{self, DirBuilder, Metadata};
+use std::os::unix::fs::{DirBuilderExt, MetadataExt};
+use std::path::Path;
+
+/// The mode of a folder that is made for a state.
+const PRIVATE: u32 = 0o700;
+
+/// The owner may write.
+const OWNER_WRITES: u32 = 0o200;
+
+/// A folder for the state of a project.
+#[derive(Drop)]
+pub(crate) struct StateFolder {
+    path: String,
+}
+
+/// The project of a folder: the nearest folder above with `.git`, or else the folder itself. It is
+/// empty for `/`, so that it stands before the names of the project.
+pub(crate) fn project_root<'a>(rt: &HostRuntime, folder: &'a str) -> Result<&'a str, AllocError> {
+    let mut above = folder;
+    // Each turn takes a name away.
+    for _ in 0..folder.len() {
+        let git = format!(in rt.alloc(); "{above}/.git")?;
+        if fs::symlink_metadata(rt, git.as_str()).is_ok() {
+            return Ok(before_names(above));
+        }
+        match Path::new(above).parent() {
+            Some(parent) => above = parent.as_str(),
+            None => break,
+        }
+    }
+    Ok(before_names(folder))
+}
+
+/// A folder without the slash at its end.
+fn before_names(folder: &str) -> &str {
+    if folder == "/" { "" } else { folder }
+}
+
+impl StateFolder {
+    /// The folders for the state of a project, the best first: a folder in `.git`, and one in the
+    /// folder for caches, if there is one.
+    pub(crate) fn of_project(
+        rt: &HostRuntime,
+        root: &str,
+        cache: Option<&str>,
+    ) -> Result<Vec<StateFolder>, AllocError> {
+        let alloc = rt.alloc();
+        let mut folders = Vec::new(alloc);
+        let Some(user) = user_of(rt) else {
+            return Ok(folders);
+        };
+        let git = format!(in alloc; "{root}/.git")?;
+        if is_own_folder(rt, git.as_str(), user) {
+            let folder = format!(in alloc; "{root}/.git/codesearch")?;
+            add_folder(rt, folder, user, &mut folders)?;
+        }
+        if let Some(cache) = cache {
+            let digest = encode(alloc, Sha1::digest(root.as_bytes()).as_slice())?;
+            let digest = digest.as_str();
+            let above = format!(in alloc; "{cache}/codesearch")?;
+            if is_free(rt, above.as_str(), user) {
+                let folder = format!(in alloc; "{cache}/codesearch/{digest}")?;
+                add_folder(rt, folder, user, &mut folders)?;
+            }
+        }
+        Ok(folders)
+    }
+
+    /// The paths of the state file.
+    pub(crate) fn paths(&self, alloc: Global) -> Result<IndexPaths, AllocError> {
+        let folder = self.path.as_str();
+        let file = format!(in alloc; "{folder}/state")?;
+        IndexPaths::of_file(alloc, file.as_str())
+    }
+
+    /// Makes the folder, if it is not there. Whether that works shows when the file is made.
+    pub(crate) fn make(&self, rt: &HostRuntime) {
+        let mut maker = DirBuilder::new();
+        maker.recursive(true);
+        maker.mode(PRIVATE);
+        let _ = maker.create(rt, self.path.as_str());
+    }
+}
+
+/// Adds a folder, if it is missing or the user's own, and so is the state file in it.
+fn add_folder(
+    rt: &HostRuntime,
+    folder: String,
+    user: u32,
+    folders: &mut Vec<StateFolder>,
+) -> Result<(), AllocError> {
+    let path = folder.as_str();
+    let file = format!(in rt.alloc(); "{path}/state")?;
+    if is_free(rt, path, user) && is_own_file(rt, file.as_str(), user) {
+        folders.push(StateFolder { path: folder })?;
+    }
+    Ok(())
+}
+
+/// The user of this process.
+fn user_of(rt: &HostRuntime) -> Option<u32> {
+    Some(fs::metadata(rt, "/proc/self").ok()?.uid())
+}
+
+/// What is at a path, if it is no link and the user's own.
+fn own_item(rt: &HostRuntime, path: &str, user: u32) -> Option<Metadata> {
+    let there = fs::symlink_metadata(rt, path).ok()?;
+    if there.uid() == user {
+        Some(there)
+    } else {
+        None
+    }
+}
+
+/// Whether the user has a folder there, and may write to it.
+fn is_own_folder(rt: &HostRuntime, path: &str, user: u32) -> bool {
+    own_item(rt, path, user).is_some_and(|there| there.is_dir() && there.mode() & OWNER_WRITES != 0)
+}
+
+/// Whether the user has a folder there, or nothing is there.
+fn is_free(rt: &HostRuntime, path: &str, user: u32) -> bool {
+    fs::symlink_metadata(rt, path).is_err() || is_own_folder(rt, path, user)
+}
+
+/// Whether the user has a regular file there, or nothing is there.
+fn is_own_file(rt: &HostRuntime, path: &str, user: u32) -> bool {
+    fs::symlink_metadata(rt, path).is_err()
+        || own_item(rt, path, user).is_some_and(|there| there.is_file())
+}

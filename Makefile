@@ -14,7 +14,7 @@ help:
 	@echo 'make try        searches a file of this repository with the program as it is before its proof: a minute'
 	@echo 'make program    proves the crates and builds crates/codesearch/out/codesearch: 20 minutes or more the first time'
 	@echo 'make lib        proves and builds the library for C and Rust: out/lib'
-	@echo 'make install    installs the tools, cs, csparts, the library, manual, completions and editor files under PREFIX (now $(PREFIX))'
+	@echo 'make install    installs the tools, csparts, the library, manual, completions and editor files under PREFIX (now $(PREFIX))'
 	@echo 'make uninstall  removes them'
 	@echo 'make dist deb   makes an archive for each Linux on x86-64, and a Debian package, in the folder dist'
 	@echo 'make quick      the pages, names and types of all crates, and the end-to-end tests on the built program: minutes'
@@ -78,6 +78,7 @@ run-tests: pages
 	tests/runs/project.py $(program)
 	tests/runs/listing.py $(program)
 	tests/shell/cs.sh $(program)
+	tests/runs/fresh.py $(program)
 	tests/shell/parts.sh $(program)
 	tests/shell/editors.sh $(program)
 	tests/shell/c_library.sh $(program)

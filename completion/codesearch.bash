@@ -18,13 +18,8 @@ _codesearch() {
         cs)
             # its options may stand anywhere
             [[ $word == -* ]] || return
-            if ((first == 2)); then
-                mapfile -t COMPREPLY < <(compgen -W '-0 -A -B -C -F -H -L -N -S -T -a -c -d -e -g -h -i -l -m -n -o -q -s -t -u -v -w -x
-                    --color= --column --files --heading --help --hidden --type-list --version --vimgrep' -- "$word")
-                return
-            fi
-            mapfile -t COMPREPLY < <(compgen -W '-0 -A -B -C -F -H -N -S -c -e -i -l -m -n -w --color= --column
-                --help --json --no-refresh --version --vimgrep' -- "$word")
+            mapfile -t COMPREPLY < <(compgen -W '-0 -A -B -C -F -H -L -N -S -T -a -c -d -e -g -h -i -l -m -n -o -q -s -t -u -v -w -x
+                --color= --column --files --heading --help --hidden --no-state --no-update --type-list --update --version --vimgrep' -- "$word")
             return
             ;;
         csparts)

@@ -30,43 +30,35 @@ for tool in cindex csearch cgrep
     __codesearch_options codesearch "__fish_seen_subcommand_from $tool" $tool
 end
 complete -c codesearch -n 'not __fish_seen_subcommand_from cindex csearch cgrep cs' -f -a 'cindex csearch cgrep cs'
-for option in F/fixed-strings i/ignore-case S/smart-case s/case-sensitive w/word-regexp x/line-regexp v/invert-match a/text c/count \
-        l/files-with-matches L/files-without-match o/only-matching q/silent n/line-number N/no-line-number H/with-filename \
-        h/no-filename 0/null u/unrestricted
-    set -l names (string split / $option)
-    complete -c codesearch -n '__fish_seen_subcommand_from cs' -s $names[1] -l $names[2]
+function __codesearch_project
+    for option in 'F/fixed-strings/a text, not a regular expression' 'i/ignore-case/letters match in either case' \
+            'S/smart-case/so, unless a pattern has a capital letter' 's/case-sensitive/letters match as they are' \
+            'w/word-regexp/whole words' 'x/line-regexp/whole lines' 'v/invert-match/lines that do not match' \
+            'a/text/binary files too' 'c/count/print the number of matching lines' \
+            'l/files-with-matches/print names alone' 'L/files-without-match/print names without a match' \
+            'o/only-matching/print each match alone' 'q/silent/print nothing' 'n/line-number/print line numbers' \
+            'N/no-line-number/print no line numbers' 'H/with-filename/print the name of a single file too' \
+            'h/no-filename/print no names' '0/null/a NUL byte after each name' 'u/unrestricted/ignored files too'
+        set -l parts (string split / -- $option)
+        complete $argv -s $parts[1] -l $parts[2] -d $parts[3]
+    end
+    for option in 'e/regexp/pattern' 'm/max-count/at most N lines of each file' 'A/after-context/lines after each match' \
+            'B/before-context/lines before each match' 'C/context/lines around each match' 'g/glob/files that match' \
+            't/type/files of a type' 'T/type-not/no files of a type' 'd/max-depth/at most N names below the folder'
+        set -l parts (string split / -- $option)
+        complete $argv -s $parts[1] -l $parts[2] -x -d $parts[3]
+    end
+    for option in 'column/columns' 'vimgrep/a line for each match' 'heading/names above lines' 'hidden/hidden files too' \
+            'files/print the names of files' 'type-list/print the types' 'update/only update the state' \
+            'no-update/do not write the state' 'no-state/read every file' 'help/show the options' \
+            'version/show the version'
+        set -l parts (string split / -- $option)
+        complete $argv -l $parts[1] -d $parts[2]
+    end
+    complete $argv -l color -x -a 'always never auto' -d colours
 end
-for option in e/regexp m/max-count A/after-context B/before-context C/context g/glob t/type T/type-not d/max-depth
-    set -l names (string split / $option)
-    complete -c codesearch -n '__fish_seen_subcommand_from cs' -s $names[1] -l $names[2] -x
-end
-for option in column vimgrep heading hidden files type-list help version
-    complete -c codesearch -n '__fish_seen_subcommand_from cs' -l $option
-end
-complete -c codesearch -n '__fish_seen_subcommand_from cs' -l color -x -a 'always never auto'
-
-complete -c cs -s F -l fixed-strings -d 'a text, not a regular expression'
-complete -c cs -s i -l ignore-case -d 'letters match in either case'
-complete -c cs -s S -l smart-case -d 'so, unless the pattern has a capital letter'
-complete -c cs -s w -l word-regexp -d 'whole words'
-complete -c cs -s l -l files-with-matches -d 'print names alone'
-complete -c cs -s c -l count -d 'print the number of matching lines'
-complete -c cs -s n -l line-number -d 'print line numbers'
-complete -c cs -s N -l no-line-number -d 'print no line numbers'
-complete -c cs -s H -l with-filename -d 'print the name of a single file too'
-complete -c cs -s 0 -l null -d 'a NUL byte after each name'
-complete -c cs -s m -l max-count -x -d 'at most N lines of each file'
-complete -c cs -s A -l after-context -x -d 'lines after each match'
-complete -c cs -s B -l before-context -x -d 'lines before each match'
-complete -c cs -s C -l context -x -d 'lines around each match'
-complete -c cs -s e -l regexp -x -d pattern
-complete -c cs -l column -d 'columns, as rg prints them'
-complete -c cs -l vimgrep -d 'a line for each match'
-complete -c cs -l json -d 'JSON, as rg prints it'
-complete -c cs -l color -x -a 'always never auto' -d colours
-complete -c cs -l no-refresh -d 'do not look for changed files'
-complete -c cs -l help -d 'show the options'
-complete -c cs -l version -d 'show the version'
+__codesearch_project -c cs
+__codesearch_project -c codesearch -n '__fish_seen_subcommand_from cs'
 
 set -l commands cut index search status place
 complete -c csparts -n "not __fish_seen_subcommand_from $commands" -f -a "$commands"

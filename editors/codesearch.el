@@ -6,7 +6,7 @@
 ;;; Commentary:
 
 ;; M-x codesearch asks for the arguments of cs(1), as a shell reads them, and lists the lines in a buffer of
-;; grep-mode: M-g n and M-g p go from one to another. TAB completes options. With rg the entries have columns.
+;; grep-mode: M-g n and M-g p go from one to another. TAB completes options.
 
 ;;; Code:
 
@@ -21,7 +21,7 @@
 (defvar codesearch-history nil "Arguments of earlier searches.")
 
 (defconst codesearch-options
-  '("-A" "-B" "-C" "-F" "-S" "-e" "-i" "-m" "-w" "--no-refresh")
+  '("-A" "-B" "-C" "-F" "-S" "-T" "-d" "-e" "-g" "-i" "-m" "-t" "-u" "-w" "-x" "--no-state")
   "Options that TAB completes.")
 
 (defun codesearch-complete ()
@@ -45,7 +45,7 @@
   "Search this project for ARGUMENTS, which are those of cs(1)."
   (interactive (list (codesearch-read)))
   (compilation-start
-   (concat codesearch-command " --color=never -nH " (if (executable-find "rg") "--column " "") arguments)
+   (concat codesearch-command " --color=never -H --column " arguments)
    #'grep-mode))
 
 (provide 'codesearch)

@@ -1,12 +1,12 @@
-" :Cs searches this project with cs(1), and lists the lines in the quickfix window. The arguments are those of cs, as a shell reads
-" them: :Cs -i 'one|two' lib. With rg the entries have columns. g:codesearch_command names another cs.
+" :Cs searches this project with cs(1), and lists the matches in the quickfix window. The arguments are those of cs, as a shell reads
+" them: :Cs -i 'one|two' lib. g:codesearch_command names another cs.
 if exists('g:loaded_codesearch') || &compatible
     finish
 endif
 let g:loaded_codesearch = 1
 
-let s:options = ['-A', '-B', '-C', '-F', '-H', '-S', '-e', '-i', '-m', '-w', '--no-refresh', '--ignore-case', '--smart-case',
-    \ '--fixed-strings', '--word-regexp', '--max-count=']
+let s:options = ['-F', '-S', '-T', '-d', '-e', '-g', '-i', '-m', '-t', '-u', '-w', '-x', '--no-state', '--fixed-strings', '--glob=',
+    \ '--ignore-case', '--max-count=', '--max-depth=', '--smart-case', '--type=', '--type-not=', '--unrestricted', '--word-regexp']
 
 " Options after a dash, else names of files.
 function! s:Complete(lead, line, at) abort
@@ -17,16 +17,15 @@ function! s:Complete(lead, line, at) abort
 endfunction
 
 function! s:Cs(arguments) abort
-    let command = get(g:, 'codesearch_command', 'cs') . ' --color=never'
-    let column = executable('rg')
+    let command = get(g:, 'codesearch_command', 'cs') . ' --color=never --no-update -H --vimgrep '
     let errors = tempname()
-    let lines = systemlist(command . (column ? ' --vimgrep ' : ' -nH ') . a:arguments . ' 2>' . shellescape(errors))
+    let lines = systemlist(command . a:arguments . ' 2>' . shellescape(errors))
     let status = v:shell_error
     let messages = filereadable(errors) ? readfile(errors) : []
     call delete(errors)
     let format = &errorformat
     try
-        let &errorformat = column ? '%f:%l:%c:%m' : '%f:%l:%m'
+        let &errorformat = '%f:%l:%c:%m'
         cgetexpr lines
     finally
         let &errorformat = format

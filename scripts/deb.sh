@@ -86,8 +86,8 @@ Architecture: amd64
 Maintainer: $maintainer
 Installed-Size: $(du -sk --apparent-size "$root/usr" | cut -f1)
 Depends: libc6 (>= 2.34)
-Recommends: git, python3
-Suggests: ripgrep, parallel, openssh-client
+Recommends: python3
+Suggests: parallel, openssh-client
 Conflicts: codesearch
 Replaces: codesearch
 Provides: codesearch

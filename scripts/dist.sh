@@ -19,7 +19,7 @@ statically() {
 statically crates/codesearch/out/codesearch.o "$top/bin/codesearch"
 # install.sh chooses this one if it runs.
 [ -z "$newer" ] || statically crates/codesearch/out/codesearch-v3.o "$top/bin/codesearch-v3"
-cp bin/cs bin/csparts "$top/bin"
+cp bin/csparts "$top/bin"
 library=out/lib
 if [ -f "$library/libcodesearch.a" ]; then
     mkdir "$top/lib" "$top/include"

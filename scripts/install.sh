@@ -1,5 +1,5 @@
 #!/bin/sh
-# Installs codesearch, or removes it: the program, the tools, cs, csparts, the library, manual, completions, editor files.
+# Installs codesearch, or removes it: the program, the tools, csparts, the library, manual, completions, editor files.
 # usage: install.sh [-u] PREFIX    PREFIX begins with /, as /usr/local
 # DESTDIR, if set, is prepended to each path. PROGRAM and LIBRARY name a program and a folder of libraries other than those
 # beside this script. LIBDIR is the folder of libraries under PREFIX, if it is not lib.
@@ -25,10 +25,10 @@ vim=$to/share/vim/vimfiles/plugin
 emacs=$to/share/emacs/site-lisp
 libdir=$prefix/${LIBDIR:-lib}
 libs=$DESTDIR$libdir
-tools='cindex csearch cgrep'
+tools='cindex csearch cgrep cs'
 
 if [ -n "$remove" ]; then
-    for name in codesearch cs csparts $tools; do rm -f "$to/bin/$name" "$bash/$name" "$fish/$name.fish"; done
+    for name in codesearch csparts $tools; do rm -f "$to/bin/$name" "$bash/$name" "$fish/$name.fish"; done
     for page in "$here"/man/*.[157]; do rm -f "$to/share/man/man${page##*.}/${page##*/}"; done
     rm -f "$zsh/_codesearch" "$vim/codesearch.vim" "$emacs/codesearch.el"
     rm -f "$libs"/libcodesearch.a "$libs"/libcodesearch.so* "$libs/pkgconfig/codesearch.pc" "$to/include/codesearch.h"
@@ -51,14 +51,13 @@ if [ -n "${V3-1}" ] && [ -x "$program-v3" ] && [ ! "$program-v3" -ot "$program" 
 fi
 install -d "$to/bin" "$bash" "$zsh" "$fish" "$vim" "$emacs"
 put 755 "$program" "$to/bin/codesearch"
-put 755 "$here/bin/cs" "$to/bin/cs"
 put 755 "$here/bin/csparts" "$to/bin/csparts"
 # The program is the tool whose name it is run by.
 for tool in $tools; do
     rm -f "$to/bin/$tool"
     ln -s codesearch "$to/bin/$tool"
 done
-for name in codesearch cs csparts $tools; do
+for name in codesearch csparts $tools; do
     put 644 "$here/completion/codesearch.bash" "$bash/$name"
     put 644 "$here/completion/codesearch.fish" "$fish/$name.fish"
 done

@@ -1,7 +1,7 @@
 #!/usr/bin/env python3
 """Fails if a page names what is not there: a file, a name of the code, a heading of a page, which comments of the code cite too, or
-a number of lines that scripts/trusted.py does not print. Before, it tries each of these tests on a wrong line. What PROMISES.md says
-of clauses and mutants is tested by scripts/promises.py.
+a number of lines that scripts/trusted.py does not print. Before, it tries each of these tests on a wrong line. It fails too if the
+pages have too many words. What PROMISES.md says of clauses and mutants is tested by scripts/promises.py.
 usage: tests/shell/docs.py [FOLDER]"""
 import re
 import subprocess
@@ -10,8 +10,10 @@ from pathlib import Path
 
 top = Path(sys.argv[1] if sys.argv[1:] else Path(__file__).parent.parent.parent).resolve()
 PROMISES = "docs/PROMISES.md"
+# All pages together, except the changelog, which only grows, have at most so many words.
+MOST = 25_000
 # Names of other programs, and those that a change would add.
-OTHERS = {"BufWriter", "posix_fadvise", "root_squash", "start_lib", "skips_lines_under_v", "queries_under_v", "FilesystemLoop"}
+OTHERS = {"BufWriter", "root_squash", "start_lib", "skips_lines_under_v", "queries_under_v", "FilesystemLoop"}
 LIST = "git ls-files 2> /dev/null || find * -type f -not -path '*/out/*'"
 FILE = re.compile(r"[\w./+-]+\.(?:rt|antt|md|sh|py|awk|edit|txt|tsv|svg|pl|[1-9ch]|rs)")
 CITED = re.compile(r'\b(README|[A-Z]+\.md)[`)]?(?:\([\w/.]+\))?, ((?:"[^"]+"(?:,? and |, )?)+)')
@@ -76,5 +78,7 @@ for path, line in [
         sys.exit(f"docs.py: not found in {path}: {line}")
 
 found = [f"{path}: {what}" for path, text in files.items() for what in stale(path, text)]
+count = sum(len(files[path].split()) for path in pages if path != "CHANGELOG.md")
+found += [f"the pages have {count:,} words, and not at most {MOST:,}"] if count > MOST else []
 print(*found, sep="\n", end="\n" if found else "")
 sys.exit(bool(found))

@@ -5,21 +5,17 @@
 
 . "$(dirname -- "$0")/library.sh"
 
-needs git
 HOME=$fresh/home
 prefix=$fresh/usr
 PATH=$prefix/bin:$PATH
 export HOME PATH fresh prefix
-unset XDG_CACHE_HOME GIT_DIR GIT_WORK_TREE CODESEARCH
-mkdir -p "$HOME/src/two  spaces"
+unset XDG_CACHE_HOME
+mkdir -p "$HOME/src/.git" "$HOME/src/two  spaces"
 PROGRAM=$program "$root/scripts/install.sh" "$prefix"
 cd "$HOME/src" || exit 2
-git init -q .
 printf 'one\n  a marker, a marker\n' > a.c
 printf 'marker\n' > 'two  spaces/b: 1.c'
 printf 'MARKER|bar\n' > bar.c
-column=''
-command -v rg > /dev/null && column=1
 
 if vim --version 2> /dev/null | grep -q '+quickfix'; then
     cat > "$fresh/jumps.vim" <<'END'
@@ -37,15 +33,11 @@ call writefile([len(getqflist())], $fresh . '/none')
 qall!
 END
     gives 0 "timeout 20 vim -N -es -u NONE -i NONE -n -S '$fresh/jumps.vim'"
-    if [ -n "$column" ]; then
-        printf 'a.c:2:5:  a marker, a marker\na.c:2:15:  a marker, a marker\n' > "$fresh/wanted"
-    else
-        printf 'a.c:2:0:  a marker, a marker\n' > "$fresh/wanted"
-    fi
+    printf 'a.c:2:5:  a marker, a marker\na.c:2:15:  a marker, a marker\n' > "$fresh/wanted"
     holds "grep '^a.c' '$fresh/listed' | diff '$fresh/wanted' -"
     printf 'bar.c:1\n' > "$fresh/wanted"
     same bars wanted
-    holds "grep -qx -- --no-refresh '$fresh/options' && grep -q '^two' '$fresh/files' && [ \"\$(cat '$fresh/none')\" = 0 ]"
+    holds "grep -qx -- --no-state '$fresh/options' && grep -q '^two' '$fresh/files' && [ \"\$(cat '$fresh/none')\" = 0 ]"
 else
     skipped 'vim: it is not installed, or has no quickfix list'
 fi
@@ -67,8 +59,7 @@ if command -v emacs > /dev/null; then
 (jump)
 END
     gives 0 "timeout 60 emacs -Q --batch -l '$fresh/jumps.el'"
-    if [ -n "$column" ]; then printf 'a.c:2:2\n' > "$fresh/wanted"; else printf 'a.c:2:0\n' > "$fresh/wanted"; fi
-    echo 'bar.c:1:0' >> "$fresh/wanted"
+    printf 'a.c:2:2\nbar.c:1:0\n' > "$fresh/wanted"
     same jumped wanted
 else
     skipped 'emacs: it is not installed'
@@ -79,10 +70,11 @@ cat > "$fresh/complete.bash" <<'END'
 try() { COMP_WORDS=("$@"); COMP_CWORD=$(($# - 1)); _codesearch "$1" "${!#}" "" && printf '%s\n' "${COMPREPLY[@]}"; }
 try csearch -b
 try codesearch ci
-try cs marker --no-r
+try cs marker --no-s
+try codesearch cs --up
 END
 if command -v bash > /dev/null; then
-    printf '%s\n' -brute cindex --no-refresh > "$fresh/wanted"
+    printf '%s\n' -brute cindex --no-state --update > "$fresh/wanted"
     holds "bash '$fresh/complete.bash' | diff '$fresh/wanted' -"
 fi
 if command -v zsh > /dev/null; then
@@ -91,7 +83,7 @@ else
     skipped 'zsh: it is not installed'
 fi
 if command -v fish > /dev/null; then
-    holds "XDG_DATA_DIRS=$prefix/share:/usr/share fish -c 'complete -C \"cs --no-r\"' | grep -q -- --no-refresh"
+    holds "XDG_DATA_DIRS=$prefix/share:/usr/share fish -c 'complete -C \"cs --no-s\"' | grep -q -- --no-state"
     holds "XDG_DATA_DIRS=$prefix/share:/usr/share fish -c 'complete -C \"csparts sea\"' | grep -q '^search'"
     holds "XDG_DATA_DIRS=$prefix/share:/usr/share fish -c 'complete -C \"csparts search -br\"' | grep -q '^-brute'"
     holds "XDG_DATA_DIRS=$prefix/share:/usr/share fish -c 'complete -C \"csearch -b\"' | grep -q -- -brute"

@@ -125,6 +125,7 @@ if command -v bash > /dev/null; then
     done
     completes 'csearch cs' codesearch cs
     completes '--heading --help --hidden' codesearch cs x --h
+    completes '--no-state --no-update' cs --no
     completes '-brute' csearch -i -f '^/' -b
     completes '' csearch -f -b
     completes '' csearch word -b

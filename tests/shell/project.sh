@@ -1,5 +1,5 @@
 #!/bin/sh
-# Compares `codesearch cs` with rg, git grep and grep over small trees: forms, choices of files, odd names and errors.
+# Compares `cs` with rg, git and grep over small trees: forms, choices of files, odd names and errors.
 # usage: tests/shell/project.sh PROGRAM
 
 . "$(dirname -- "$0")/library.sh"
@@ -264,12 +264,16 @@ prints 2 '' 'cs: not always, never or auto: red\n' "cs --color red ab"
 prints 2 '' 'cs: no such type (cs --type-list): zz\n' "cs -t zz ab"
 prints 2 '' 'cs: bad pattern: a parenthesis closes no group\n  a)\n   ^\n' "cs 'a)'"
 prints 2 '' 'cs: bad pattern: a parenthesis closes no group\n  é)\n   ^\n' "cs -e ab -e 'é)' -e '(b'"
-prints 2 '' 'cs: --update: cs keeps no index yet\n' "cs --update ab"
 prints 2 '' 'cs: not a glob: *.{c,h\n' "cs -g '*.{c,h' ab"
 prints 2 '' 'cs: word 2 is not text\n' "cs ab \"\$(printf '\\377')\""
 prints 0 '' '' "cs -q ab"
 prints 1 '' '' "cs -q zzz"
 prints 0 '' '' "cs -q -c -e ab -e zzz f"
+prints 0 '' '' "cs --update"
+prints 0 '' '' "cs --update sub f"
+prints 2 '' 'cs: nowhere: no such file\n' "cs --update nowhere"
+prints 0 '2\n' '' "cs --no-state -c ab f"
+prints 0 '2\n' '' "cs --no-update -c ab f"
 prints 0 'cs 0.9.0\n' '' "cs --version"
 holds "cs --help | grep -q '^usage: cs'"
 holds "cs --type-list | grep -q '^c: '"

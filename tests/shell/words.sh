@@ -66,10 +66,9 @@ PHRASES
 my @exceptions = map { /^\s*(\S+): (.+?): (.+?)\s*$/ ? [qr{^$1$}, qr/^(?:$2)$/, $3] : () } split /\n/, <<'EXCEPTIONS';
     tests/shell/words\.sh: .*: this list
     crates/cs_trigram/.*|docs/ARCHITECTURE\.md: hits?: a cache has hits and misses
-    crates/cs_(trigram/proofs/fast_path|index/proofs/reading/bytes)/.*: front: a clause of std's split_at
+    crates/cs_(trigram/proofs/position|index/proofs/reading/bytes)/.*: front: a clause of std's split_at
     crates/cs_match/proofs/lanes/four_lanes/.*: front: a clause of std's split_at_mut
     crates/codesearch/src/progress\.rt: cell: std's type
-    crates/cs_listing/proofs/RuleKeyLemmas\.antt: places_(from|between): definitions of memchr
     crates/cs_index/proofs/reading/index/Index/candidates_from/.*: told: the prover's name of a bound
 EXCEPTIONS
 @exceptions <= 20 or die "words.sh: more than twenty exceptions\n";

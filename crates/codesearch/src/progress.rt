@@ -19,7 +19,7 @@ const ERASE: &str = "\r                                                  \r";
 pub(crate) struct ProgressLine {
     rt: HostRuntime,
     /// The name of the tool.
-    tool: &'static str,
+    tool: String,
     /// When a line was written last, or the start. None if none is ever written.
     last: Cell<Option<Instant>>,
     is_shown: Cell<bool>,
@@ -33,7 +33,7 @@ impl ProgressLine {
     /// terminal.
     pub(crate) fn new(
         rt: &HostRuntime,
-        tool: &'static str,
+        tool: &str,
         wanted: bool,
     ) -> Result<ProgressLine, AllocError> {
         let start = if wanted && rt.stderr().is_terminal() {
@@ -43,7 +43,7 @@ impl ProgressLine {
         };
         Ok(ProgressLine {
             rt: rt.clone()?,
-            tool,
+            tool: String::from_str(rt.alloc(), tool)?,
             last: Cell::new(start),
             is_shown: Cell::new(false),
             paths: Cell::new(0),
@@ -82,7 +82,7 @@ impl ProgressLine {
     fn line(&self) -> Result<String, AllocError> {
         let (paths, files, bytes) = (self.paths.get(), self.files.get(), self.bytes.get());
         let megabytes = bytes / 1_000_000;
-        let tool = self.tool;
+        let tool = self.tool.as_str();
         if files == 0 {
             format!(in self.rt.alloc(); "{ERASE}{tool}: {paths} paths found")
         } else {

@@ -27,25 +27,7 @@ pub(crate) fn search_on_disk(
         return Ok(refuse(rt, "cs: no current folder\n"));
     };
     let settings = SettingFolders::of_environment(rt)?;
-    let user = match &settings {
-        Some(folders) => Some(UserFolders {
-            home: folders.home.as_str(),
-            config: folders.config.as_str(),
-        }),
-        None => None,
-    };
-    let call = ProjectCall {
-        alloc: rt.alloc(),
-        words,
-        folder,
-        user,
-        terminal: rt.stdout().is_terminal(),
-    };
-    let cache = match &settings {
-        Some(folders) => Some(folders.cache.as_str()),
-        None => None,
-    };
-    search_project(rt, &call, cache)
+    search_project(rt, words, folder, &settings)
 }
 
 /// Prints the line of an error, and returns the exit status.
@@ -57,16 +39,38 @@ fn refuse(rt: &HostRuntime, line: &str) -> u8 {
 /// Does what the arguments of `cs` ask for, and returns the exit status. What was not known is
 /// learned after the output, also after one that was closed.
 #[inline(never)]
-fn search_project(
+fn search_project<'a>(
     rt: &HostRuntime,
-    call: &ProjectCall<'_>,
-    cache: Option<&str>,
-) -> Result<u8, AllocError> {
-    let (mut state, mut known) = DiskState::open(rt, call.folder, cache)?;
+    words: &'a [String],
+    folder: &'a str,
+    settings: &'a Option<SettingFolders>,
+) -> Result<u8, AllocError>
+    requires { is_absolute folder.now ≡ true }
+{
+    let user = match settings {
+        Some(folders) => Some(UserFolders {
+            home: folders.home.as_str(),
+            config: folders.config.as_str(),
+        }),
+        None => None,
+    };
+    let cache = match settings {
+        Some(folders) => Some(folders.cache.as_str()),
+        None => None,
+    };
+    let terminal = rt.stdout().is_terminal();
+    let call = ProjectCall {
+        alloc: rt.alloc(),
+        words,
+        folder,
+        user,
+        terminal,
+    };
+    let (mut state, mut known) = DiskState::open(rt, folder, cache)?;
     let mut tree = project_tree(rt)?;
-    let mut out = SinkOutput::new(buffered_output(rt)?, call.terminal);
+    let mut out = SinkOutput::new(buffered_output(rt)?, terminal);
     let mut err = StdSink::new(rt.stderr());
-    let answer = run_project(call, &mut tree, &mut known, &mut out, &mut err);
+    let answer = run_project(&call, &mut tree, &mut known, &mut out, &mut err);
     let flushed = out.flush();
     let status = if out.fault() == Some(IoFault::Failed) || flushed.is_err() {
         // A pipe whose reader has gone needs no line.

@@ -164,11 +164,11 @@ impl DiskState {
     }
 }
 
-/// The time of the clock, in nanoseconds since 1970.
+/// The time of the clock in nanoseconds since 1970, to the second.
 fn now(rt: &HostRuntime) -> u64 {
     match SystemTime::now(rt) {
         Ok(time) => match time.duration_since(SystemTime::UNIX_EPOCH) {
-            Ok(past) => past.as_nanos() as u64,
+            Ok(past) => past.as_secs().saturating_mul(1_000_000_000),
             Err(_) => 0,
         },
         Err(_) => 0,

@@ -1,4 +1,6 @@
-use Rattle.std.proofs.Common.{refl, sym, ap, ◌∙◌}
+use Rattle.std.proofs.Common.{refl, ap, ◌∙◌, subst}
+use Rattle.cs_syntax.specs.Matching.{Tree}
+use Rattle.cs_match.specs.Cached.{IsCacheOf}
 use Rattle.codesearch_c.specs.Compiled.{Compiled}
 use Rattle.codesearch_c.proofs.MatchingLineLemmas.{decides_program}
 use Rattle.codesearch_c.proofs.held.HeldPattern.count_code.Goals as goal
@@ -7,7 +9,7 @@ pub invariant_of-self-2 : goal.invariant_of-self-2
 invariant_of-self-2 c = (
   c.self.invariant.0,
   c.self.invariant.1,
-  (λ program same. c.into_cache.ensures.0 program (same ∙ sym (c.count_lines.ensures.same ∙ c.in-Ok.ensures.tree)), c.into_cache.ensures.1),
+  subst (λ (tree : Tree). IsCacheOf tree c.into_cache.result) (c.count_lines.ensures.same ∙ c.in-Ok.ensures.tree) c.into_cache.ensures,
   c.self.invariant.3,
 )
 

@@ -3,6 +3,7 @@ use Rattle.std.proofs.Common.{Bool, true, false, IsTrue, List, ℕ, ℤ, ◌≡�
 use Rattle.std.specs.Prelude.{pos}
 use Rattle.core.specs.Int.{from_bool}
 use Rattle.cs_syntax.specs.Matching.{Tree, HasMatch}
+use Rattle.cs_match.specs.Cached.{IsCacheOf}
 use Rattle.codesearch_c.specs.Compiled.{Compiled}
 use Rattle.codesearch_c.specs.Patterns.{IsMatchCode}
 use Rattle.codesearch_c.proofs.held.HeldPattern.match_code.Goals as goal
@@ -24,7 +25,7 @@ pub invariant_of-self-2 : goal.invariant_of-self-2
 invariant_of-self-2 c = (
   c.self.invariant.0,
   c.self.invariant.1,
-  (λ program same. c.into_cache.ensures.0 program (same ∙ sym (c.is_match-found.ensures.same ∙ c.in-Ok.ensures.tree)), c.into_cache.ensures.1),
+  subst (λ (tree : Tree). IsCacheOf tree c.into_cache.result) (c.is_match-found.ensures.same ∙ c.in-Ok.ensures.tree) c.into_cache.ensures,
   c.self.invariant.3,
 )
 

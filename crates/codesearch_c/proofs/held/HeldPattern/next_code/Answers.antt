@@ -1,4 +1,6 @@
-use Rattle.std.proofs.Common.{rules, sym, ap, ◌∙◌}
+use Rattle.std.proofs.Common.{rules, ap, ◌∙◌, subst}
+use Rattle.cs_syntax.specs.Matching.{Tree}
+use Rattle.cs_match.specs.Cached.{IsCacheOf}
 use Rattle.codesearch_c.specs.Compiled.{Compiled}
 use Rattle.codesearch_c.specs.MatchingLines.{IsFirstLine}
 use Rattle.codesearch_c.proofs.MatchingLineLemmas.{decides_program}
@@ -8,7 +10,7 @@ pub invariant_of-self-2 : goal.invariant_of-self-2
 invariant_of-self-2 c = (
   c.self.invariant.0,
   c.self.invariant.1,
-  (λ program same. c.into_cache.ensures.0 program (same ∙ sym (c.first_line-found.ensures.same ∙ c.in-Ok.ensures.tree)), c.into_cache.ensures.1),
+  subst (λ (tree : Tree). IsCacheOf tree c.into_cache.result) (c.first_line-found.ensures.same ∙ c.in-Ok.ensures.tree) c.into_cache.ensures,
   c.self.invariant.3,
 )
 

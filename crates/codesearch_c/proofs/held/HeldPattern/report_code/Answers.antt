@@ -5,6 +5,7 @@ use Rattle.cs_syntax.specs.Matching.{Tree}
 use Rattle.cs_tree.specs.Sinks.{SinkModel}
 use Rattle.cs_args.specs.declared.jobs.Style.{Style}
 use Rattle.cs_search.specs.GrepReports.{text_report}
+use Rattle.cs_match.specs.Cached.{IsCacheOf}
 use Rattle.codesearch_c.specs.Compiled.{Compiled}
 use Rattle.codesearch_c.specs.Copies.{IsCopy}
 use Rattle.codesearch_c.specs.MatchingLines.{ForEachTest}
@@ -31,7 +32,7 @@ pub invariant_of-self-in-Ok-answer : goal.invariant_of-self-in-Ok-answer
 invariant_of-self-in-Ok-answer c = (
   c.self.invariant.0,
   c.self.invariant.1,
-  (λ program same. c.into_cache.ensures.0 program (same ∙ sym (c.grep_text-answer.ensures.same ∙ c.in-Ok-matcher_of.ensures.tree)), c.into_cache.ensures.1),
+  subst (λ (tree : Tree). IsCacheOf tree c.into_cache.result) (c.grep_text-answer.ensures.same ∙ c.in-Ok-matcher_of.ensures.tree) c.into_cache.ensures,
   c.self.invariant.3,
 )
 
@@ -39,7 +40,7 @@ pub invariant_of-self-2 : goal.invariant_of-self-2
 invariant_of-self-2 c = (
   c.self.invariant.0,
   c.self.invariant.1,
-  (λ program same. c.into_cache.ensures.0 program (same ∙ sym (c.grep_text-answer.ensures.same ∙ c.in-Ok-matcher_of.ensures.tree)), c.into_cache.ensures.1),
+  subst (λ (tree : Tree). IsCacheOf tree c.into_cache.result) (c.grep_text-answer.ensures.same ∙ c.in-Ok-matcher_of.ensures.tree) c.into_cache.ensures,
   c.self.invariant.3,
 )
 

@@ -131,7 +131,7 @@ class Project:
         if os.path.isdir(path):
             os.rename(path, self.top + b".away")
             self.put(path, b"marker in place\n") if self.dice.random() < 0.5 else None
-            time.sleep(2.1) if self.dice.random() < 0.2 else None
+            time.sleep(3.2) if self.dice.random() < 0.2 else None
             self.update("away")
             os.remove(path) if os.path.lexists(path) else None
             os.rename(self.top + b".away", path)
@@ -231,7 +231,7 @@ def main():
     projects = [Project(number, *one, seed) for number, one in enumerate(PROJECTS)]
     for _ in range(rounds):
         [project.change() for _ in range(3) for project in projects]
-        time.sleep(2.1)
+        time.sleep(3.2)
         for project in projects:
             project.compare("a wait")
             project.update("a wait") if project.dice.random() < 0.7 else None

@@ -149,7 +149,8 @@ echo old > .git/codesearch/state
 cp -r . "$HOME/loose" && rm -r "$HOME/loose/.git"
 cp -r "$HOME/loose" "$HOME/file" && echo 'gitdir: ../named' > "$HOME/file/.git"
 mkdir "$HOME/few" && cd "$HOME/few" && mkdir .git && cp ../large/f59? .
-sleep 2.1
+# the clock before the search is read to the second
+sleep 3.2
 state=$HOME/large/.git/codesearch/state
 cache=$HOME/.cache/codesearch
 rm -rf "$cache"

@@ -6,10 +6,10 @@ use Rattle.std_alloc.proofs.BoxSteps.Form.{Bx}
 use Rattle.std_heap.specs.contracts.Global as Heap
 use Rattle.std_heap.specs.contracts.GlobalAllocator.TheImpl.{ghosts, dict}
 use Rattle.std_heap.proofs.Global.TheLaws as heap
-use Rattle.codesearch_c.specs.contracts.held.Held as Held
-use Rattle.codesearch_c.proofs.held.Held.TheLaws as held
+use Rattle.codesearch_c.specs.contracts.slot.Held as Held
+use Rattle.codesearch_c.proofs.slot.Held.TheLaws as held
 use Rattle.std.proofs.Common.{◌≡◌, Option, Some, None, IsSome, refl, rules}
-use Rattle.codesearch_c.specs.declared.held.Held.{Held}
+use Rattle.codesearch_c.specs.declared.slot.Held.{Held}
 use Rattle.codesearch_c.specs.contracts.slot.parts.Parts as Parts
 use Rattle.codesearch_c.specs.contracts.slot.Handle as Handle
 

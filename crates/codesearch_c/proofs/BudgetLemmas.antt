@@ -12,7 +12,7 @@ use Rattle.cs_match.specs.Skipping.{AreWholeLines, IsLineAfter}
 use Rattle.cs_match.proofs.LinesLemmas.{lines-none}
 use Rattle.cs_match.proofs.WholeLineLemmas.{whole_line, whole_between, whole_drop, whole_part}
 use Rattle.codesearch_c.specs.declared.lines.LineBounds.{LineBounds}
-use Rattle.codesearch_c.specs.declared.budgets.Budget.{Budget}
+use Rattle.codesearch_c.specs.declared.within.Budget.{Budget}
 use Rattle.codesearch_c.specs.Budgets.{BeginsLine, IsLineFrom, IsStop, HasNoStop, IsNextWithinCode, IsCountWithinCode}
 use Rattle.codesearch_c.specs.Budgets as answer
 use Rattle.codesearch_c.specs.Codes.{stopped}

@@ -9,8 +9,8 @@ use Rattle.cs_index.specs.MaxNames.{max_names}
 use Rattle.cs_index.specs.Encoding.{encoding_of}
 use Rattle.cs_index.specs.declared.fault.BuildFault.{BuildFault}
 use Rattle.cs_index.specs.declared.fault.BuildFault.TheVariants as build
-use Rattle.codesearch_c.specs.declared.held.Held.{Held}
-use Rattle.codesearch_c.specs.declared.held.Held.TheVariants.{Builder, Bytes}
+use Rattle.codesearch_c.specs.declared.slot.Held.{Held}
+use Rattle.codesearch_c.specs.declared.slot.Held.TheVariants.{Builder, Bytes}
 use Rattle.codesearch_c.specs.Codes.{done, memory, build_code}
 use Rattle.codesearch_c.specs.Slots.{is_filled, OnBuilder, OnBytes}
 use Rattle.codesearch_c.specs.Building.{nul_parts, IsAddition, rejected_name, no_memory, IsRefusedIndex, too_large, no_room, IsFinished}

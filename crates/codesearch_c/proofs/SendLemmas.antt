@@ -21,10 +21,10 @@ use Rattle.cs_match.proofs.dfa.StateCache.TheSendSync as states
 use Rattle.cs_match.proofs.pacing.Pacing.TheSendSync as pacing
 use Rattle.cs_match.proofs.position.Position.TheSendSync as position
 use Rattle.cs_match.proofs.byte_classes.ByteClasses.TheSendSync as classes
-use Rattle.cs_match.proofs.look_around.LookBehind.TheSendSync as behind
-use Rattle.codesearch_c.specs.contracts.held.HeldPattern as HeldPattern
-use Rattle.codesearch_c.specs.contracts.held.HeldBuilder as HeldBuilder
-use Rattle.codesearch_c.specs.contracts.held.Held as Held
+use Rattle.cs_match.proofs.state.LookBehind.TheSendSync as behind
+use Rattle.codesearch_c.specs.contracts.slot.HeldPattern as HeldPattern
+use Rattle.codesearch_c.specs.contracts.slot.HeldBuilder as HeldBuilder
+use Rattle.codesearch_c.specs.contracts.slot.Held as Held
 
 steps_send : IsSend (Steps.the_field).row
 steps_send = owning_send Steps.the_type tt (λ d. tt) (λ k x w. tt)

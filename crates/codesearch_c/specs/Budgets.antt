@@ -5,7 +5,7 @@ use Rattle.cs_match.specs.Lines.{newline, lines}
 use Rattle.cs_match.specs.NoNewline.{HasNoNewline}
 use Rattle.cs_match.specs.Skipped.{AreLinesBetween}
 use Rattle.codesearch_c.specs.declared.lines.LineBounds.{LineBounds}
-use Rattle.codesearch_c.specs.declared.budgets.Budget.{Budget}
+use Rattle.codesearch_c.specs.declared.within.Budget.{Budget}
 use Rattle.codesearch_c.specs.Codes.{done, memory, stopped}
 use Rattle.codesearch_c.specs.MatchingLines.{ForEachTest, IsFirstLine, matching_lines}
 

@@ -10,7 +10,7 @@ use Rattle.cs_index.specs.MaxNames.{max_names}
 use Rattle.cs_index.specs.Encoding.{encoding_of}
 use Rattle.cs_index.specs.declared.fault.BuildFault.{BuildFault}
 use Rattle.cs_index.specs.declared.fault.BuildFault.TheVariants as build
-use Rattle.codesearch_c.specs.declared.held.Held.{Held}
+use Rattle.codesearch_c.specs.declared.slot.Held.{Held}
 use Rattle.codesearch_c.specs.Codes.{done, memory, not_utf8, no_entry, build_code, reason_code}
 use Rattle.codesearch_c.specs.Slots.{OnBuilder, OnBytes}
 

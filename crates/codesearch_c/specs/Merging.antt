@@ -4,7 +4,7 @@ use Rattle.cs_index.specs.OpenedParts.{Parts}
 use Rattle.cs_index.specs.declared.fault.IndexFault.{IndexFault}
 use Rattle.cs_merge.specs.MergeResult.{most_bytes, IsMerged, IsMergeFault}
 use Rattle.cs_merge.specs.declared.fault.MergeFault.{MergeFault}
-use Rattle.codesearch_c.specs.declared.held.Held.{Held}
+use Rattle.codesearch_c.specs.declared.slot.Held.{Held}
 use Rattle.codesearch_c.specs.Codes.{done, index_code, merge_code}
 use Rattle.codesearch_c.specs.Slots.{OnBytes}
 

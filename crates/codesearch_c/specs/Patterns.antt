@@ -5,7 +5,7 @@ use Rattle.cs_syntax.specs.Matching.{Tree, HasMatch}
 use Rattle.cs_syntax.specs.Parsing.{ParsesAs}
 use Rattle.cs_syntax.specs.ParseErrors.{IsParseError}
 use Rattle.cs_syntax.specs.declared.fault.PatternError.{PatternError}
-use Rattle.codesearch_c.specs.declared.held.Held.{Held}
+use Rattle.codesearch_c.specs.declared.slot.Held.{Held}
 use Rattle.codesearch_c.specs.declared.slot.Slot.{Slot}
 use Rattle.codesearch_c.specs.Compiled.{Compiled}
 use Rattle.cs_match.specs.Lines.{lines}

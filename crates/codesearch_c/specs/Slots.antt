@@ -6,11 +6,11 @@ use denote.RawPtr.{Ptr}
 use Rattle.std_alloc.specs.Box.Ownership.{box_owns}
 use Rattle.std_heap.specs.contracts.GlobalAllocator.TheImpl.{ghosts}
 use Rattle.std_heap.specs.declared.Global.{Global}
-use Rattle.codesearch_c.specs.declared.held.Held.{Held}
-use Rattle.codesearch_c.specs.declared.held.Held.TheVariants.{Pattern, Builder, Bytes}
+use Rattle.codesearch_c.specs.declared.slot.Held.{Held}
+use Rattle.codesearch_c.specs.declared.slot.Held.TheVariants.{Pattern, Builder, Bytes}
 use Rattle.cs_index.specs.Built.{Built}
 use Rattle.codesearch_c.specs.Compiled.{Compiled}
-use Rattle.codesearch_c.specs.contracts.held.Held.{the_row}
+use Rattle.codesearch_c.specs.contracts.slot.Held.{the_row}
 
 -- the slot holds something
 abbrev pub is_filled : Option Held → Bool

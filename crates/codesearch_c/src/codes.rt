@@ -1,6 +1,7 @@
-// The codes of errors: the numbers of `codesearch.h`.
+// The codes of errors, the numbers of `codesearch.h`, and copies into a buffer of the caller.
 ghost use Rattle.std.specs.Prelude.{◌≡◌};
 ghost use Rattle.codesearch_c.specs.Codes.{list_code, pattern_code, index_code, build_code, merge_code, reason_code};
+ghost use Rattle.codesearch_c.specs.Copies.{IsCopy, IsPage};
 
 use cs_index::{BuildFault, IndexFault};
 use cs_merge::MergeFault;
@@ -9,16 +10,22 @@ use cs_trigram::Reason;
 
 /// The call did what it was asked.
 pub(crate) const OK: i32 = 0;
+
 /// An allocation failed.
 pub(crate) const MEMORY: i32 = -1;
+
 /// A pattern, a name or a path is not UTF-8.
 pub(crate) const NOT_UTF8: i32 = -2;
+
 /// There are more bytes, ids or lines than room.
 pub(crate) const ROOM: i32 = -3;
+
 /// There is no name, path or byte of this number.
 pub(crate) const NO_ENTRY: i32 = -4;
+
 /// The slot is empty, filled, or holds something else.
 pub(crate) const MISUSE: i32 = -5;
+
 /// The budget or the room is used up.
 pub(crate) const STOPPED: i32 = -6;
 
@@ -106,4 +113,26 @@ pub(crate) fn reason_code(reason: Reason) -> i32
         Reason::LongLine => 4,
         Reason::ManyTrigrams => 5,
     }
+}
+
+/// Copies the items to the start of the buffer, if all fit. The length is that of all items.
+pub(crate) fn copy_items<T: Copy>(items: &[T], buffer: &mut [T], len: &mut usize) -> i32
+    ensures { IsCopy items.now buffer.old buffer.new len.new result }
+{
+    *len = items.len();
+    if items.len() > buffer.len() {
+        return ROOM;
+    }
+    buffer[..items.len()].copy_from_slice(items);
+    OK
+}
+
+/// Copies the first items to the start of the buffer, as many as fit. The count is theirs.
+pub(crate) fn copy_first<T: Copy>(items: &[T], buffer: &mut [T], count: &mut usize) -> i32
+    ensures { IsPage items.now buffer.old buffer.new count.new result }
+{
+    let len = items.len().min(buffer.len());
+    *count = len;
+    buffer[..len].copy_from_slice(&items[..len]);
+    list_code(len < items.len())
 }

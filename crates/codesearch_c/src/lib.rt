@@ -33,19 +33,12 @@
 //! ```
 #![tactic(auto)]
 
-mod budgets;
-mod building;
 mod codes;
-mod copying;
-mod finding;
-mod held;
 mod indexing;
 mod lines;
 mod matching;
 mod merging;
-mod patterns;
 mod reports;
 mod slot;
 mod spans;
-mod texts;
 mod within;

@@ -5,8 +5,8 @@ ghost use Rattle.codesearch_c.specs.Slots.{is_filled};
 ghost use Rattle.codesearch_c.specs.Patterns.{IsMisuse};
 ghost use Rattle.codesearch_c.specs.Merging.{IsMergeOf, IsMergeOfOpened};
 
-use crate::building::fill_bytes;
 use crate::codes::{MISUSE, index_code, merge_code};
+use crate::indexing::fill_bytes;
 use crate::slot::Slot;
 use cs_index::Index;
 use cs_merge::merge;

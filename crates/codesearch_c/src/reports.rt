@@ -1,13 +1,23 @@
-// The export that prints what cgrep prints for a text.
+// Exports over a text: what cgrep prints for it, and whether an index takes it.
 ghost use Rattle.std.specs.Prelude.{◌≡◌};
 ghost use Rattle.codesearch_c.specs.Patterns.{IsAnswered};
 ghost use Rattle.codesearch_c.specs.Reports.{style_of, IsReportCode};
+ghost use Rattle.codesearch_c.specs.Building.{IsScanCode};
 
-use crate::codes::MISUSE;
-use crate::held::Held;
-use crate::slot::Slot;
+use crate::codes::{MEMORY, MISUSE, OK, reason_code};
+use crate::slot::{Held, Slot};
 use cs_args::Style;
-use std::alloc::Global;
+use cs_tree::MemSource;
+use cs_trigram::{Reason, Scan, ScanFault, Scanner};
+use std::alloc::{AllocError, Global};
+
+/// An input, and the options of cgrep.
+#[derive(Drop)]
+pub(crate) struct GrepInput<'a> {
+    pub(crate) name: &'a [u8],
+    pub(crate) text: &'a [u8],
+    pub(crate) style: u32,
+}
 
 /// What cgrep prints for an input with this name and text.
 #[unsafe(no_mangle)]
@@ -37,12 +47,20 @@ pub extern "C" fn cs_grep(
     code
 }
 
-/// An input, and the options of cgrep.
-#[derive(Drop)]
-pub(crate) struct GrepInput<'a> {
-    pub(crate) name: &'a [u8],
-    pub(crate) text: &'a [u8],
-    pub(crate) style: u32,
+/// Whether an index takes the text: 0, the number of the reason to leave it out, or a code.
+#[unsafe(no_mangle)]
+pub extern "C" fn cs_text_scan(alloc: Global, text: &[u8]) -> i32
+    ensures { IsScanCode text.now result }
+{
+    let Ok(mut scanner) = Scanner::new(alloc) else {
+        return MEMORY;
+    };
+    let mut source = MemSource::new(text, usize::MAX, false);
+    match scanner.gather(&mut source) {
+        Ok(Scan::Text { .. }) => OK,
+        Ok(Scan::Skip(reason)) => reason_code(reason),
+        Err(_) => MEMORY,
+    }
 }
 
 /// The options of cgrep: 1 for `-c`, 2 for `-l`, 4 for `-n` and 8 for `-h`.

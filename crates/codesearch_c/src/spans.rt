@@ -4,11 +4,9 @@ ghost use Rattle.cs_match.specs.Lines.{newline};
 ghost use Rattle.codesearch_c.specs.Patterns.{IsAnswered};
 ghost use Rattle.codesearch_c.specs.Spans.{IsSpanCode, IsSpansCode, IsNewlinesCode};
 
-use crate::codes::{MISUSE, OK};
-use crate::finding::Order;
-use crate::held::Held;
-use crate::slot::Slot;
-use cs_match::{Span, Wanted};
+use crate::codes::{MISUSE, OK, list_code};
+use crate::slot::{Held, HeldPattern, Slot};
+use cs_match::{Finder, Span, Wanted};
 use std::alloc::Global;
 
 /// The first match of a line from an offset on: 1, 0 if there is none, or a code.
@@ -193,4 +191,79 @@ fn newlines(text: &[u8]) -> usize
     ensures { result ≡ count_by (λ b. nat_eq b newline) text.now }
 {
     text.iter().filter(|byte| **byte == b'\n').count()
+}
+
+// ---- finding: Calls over a held pattern that say where in a line it matches. They take no memory.
+/// Which spans of a line are listed, and how far.
+#[derive(Clone, Copy)]
+pub(crate) struct Order {
+    /// Those that are whole words.
+    pub(crate) whole: bool,
+    /// The bytes that passes may read.
+    pub(crate) budget: usize,
+}
+
+impl HeldPattern {
+    /// The first match that is wanted: 1, 0 if there is none, or a code.
+    pub(crate) fn find_code(&mut self, line: &[u8], wanted: Wanted, span: &mut Span) -> i32
+        ensures code { IsSpanCode wanted.whole self.old.pattern line.now wanted.from wanted.least
+            span.old span.new result }
+        ensures same { self.new ≡ self.old }
+    {
+        if line.len() < wanted.from {
+            return MISUSE;
+        }
+        let pass = self.pass.take().unwrap();
+        let mut finder = Finder::resume(&self.program, pass);
+        let found = finder.search(line, wanted);
+        self.pass = Some(finder.into_pass());
+        let Some(first) = found else {
+            return 0;
+        };
+        *span = first;
+        1
+    }
+
+    /// The first one that begins at or after the end of a match, and ends after it.
+    pub(crate) fn after_code(
+        &mut self,
+        line: &[u8],
+        whole: bool,
+        last: Span,
+        span: &mut Span,
+    ) -> i32
+        ensures code { IsSpanCode whole self.old.pattern line.now last.end (last.end + 1)
+            span.old span.new result }
+        ensures same { self.new ≡ self.old }
+    {
+        if line.len() < last.end {
+            return MISUSE;
+        }
+        let wanted = Wanted {
+            whole,
+            from: last.end,
+            least: last.end + 1,
+        };
+        self.find_code(line, wanted, span)
+    }
+
+    /// Lists the matches of a line, and how many are listed.
+    pub(crate) fn spans_code(
+        &mut self,
+        line: &[u8],
+        order: Order,
+        spans: &mut [Span],
+        count: &mut usize,
+    ) -> i32
+        ensures code { IsSpansCode order.whole self.old.pattern line.now spans.old spans.new
+            count.new result }
+        ensures same { self.new ≡ self.old }
+    {
+        let pass = self.pass.take().unwrap();
+        let mut finder = Finder::resume(&self.program, pass);
+        let listed = finder.list(line, order.whole, order.budget, spans);
+        self.pass = Some(finder.into_pass());
+        *count = listed.count;
+        list_code(listed.stopped)
+    }
 }

@@ -1,7 +1,7 @@
 -- What is known of the files of a tree without reading them. A search skips files that are known to print nothing.
 use Rattle.std.specs.Prelude.{ℕ, ◌≡◌, Bool, true, false, List, Option, IfSome}
 use Rattle.cs_tree.specs.Snapshot.{Snapshot, item_at}
-use Rattle.cs_tree.specs.declared.look.Stamp.{Stamp}
+use Rattle.cs_tree.specs.declared.tree.Stamp.{Stamp}
 use Rattle.cs_match.specs.SameLines.{MatchSameLines}
 use Rattle.cs_listing.specs.Listing.{TreeItems}
 use Rattle.cs_listing.specs.Stamps.{Stamps}

@@ -2,7 +2,7 @@
 use Rattle.std.proofs.Common.{◌≡◌, ◌∙◌, Bool, true, false, not, ◌||◌, [], ◌∷◌, Some, None, refl, ap, codes}
 use Rattle.std.specs.FinMap as map'
 use Rattle.std.proofs.lemmas.Cmp.{nat_list_cmp_total}
-use Rattle.cs_tree.specs.declared.look.Stamp.{Stamp}
+use Rattle.cs_tree.specs.declared.tree.Stamp.{Stamp}
 use Rattle.cs_trigram.specs.Trigram.{has}
 use Rattle.cs_trigram.specs.declared.queries.Query.TheVariants.{All, Nothing}
 use Rattle.cs_trigram.proofs.QueryLemmas.{matches_set-All, matches_set-Nothing}

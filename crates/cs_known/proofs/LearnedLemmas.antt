@@ -3,7 +3,7 @@ use Rattle.std.proofs.Common.{◌≡◌, true, List, [], ◌∷◌, sym, ap, sub
 use Rattle.std.specs.List.{AllByRecursion}
 use Rattle.std.specs.FinMap as map'
 use Rattle.std.proofs.lemmas.Bool.{true≢false, and_parts, eqb-true}
-use Rattle.cs_tree.specs.declared.look.Stamp.{Stamp}
+use Rattle.cs_tree.specs.declared.tree.Stamp.{Stamp}
 use Rattle.cs_index.specs.OpenedParts.{Parts, files_in}
 use Rattle.cs_state.specs.Known.{Known, is_same_stamp}
 use Rattle.cs_known.specs.Skipped.{is_known_stamp}

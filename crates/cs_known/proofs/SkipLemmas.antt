@@ -4,7 +4,7 @@ use Rattle.std.specs.Prelude.{bytes_eq}
 use Rattle.std.specs.List.{list_any}
 use Rattle.std.proofs.lemmas.Bool.{and_from, or_left, or_right}
 use Rattle.std.proofs.lemmas.Slice.Eq.{bytes_eq-Decides}
-use Rattle.cs_tree.specs.declared.look.Stamp.{Stamp}
+use Rattle.cs_tree.specs.declared.tree.Stamp.{Stamp}
 use Rattle.cs_trigram.specs.declared.queries.Query.{Query}
 use Rattle.cs_project.specs.declared.binary.BinaryFiles.{BinaryFiles}
 use Rattle.cs_project.specs.declared.form.ShowOptions.{ShowOptions}

@@ -4,7 +4,7 @@ use Rattle.std.specs.List.{AllByRecursion}
 use Rattle.std.specs.Ordering.{is_lt}
 use Rattle.cs_tree.specs.NameOrder.{bytes_cmp}
 use Rattle.cs_tree.specs.Store.{part_of}
-use Rattle.cs_tree.specs.declared.look.Stamp.{Stamp}
+use Rattle.cs_tree.specs.declared.tree.Stamp.{Stamp}
 use Rattle.cs_trigram.specs.declared.queries.Query.{Query}
 use Rattle.cs_index.specs.Candidates.{candidates_of}
 use Rattle.cs_index.specs.NameReading.{ReadsNames}

@@ -1,6 +1,6 @@
 -- The files that an open state knows, for one search.
 use Rattle.std.specs.Prelude.{◌≡◌, ℕ, Bool, true, false, List, Option, Some}
-use Rattle.cs_tree.specs.declared.look.Stamp.{Stamp}
+use Rattle.cs_tree.specs.declared.tree.Stamp.{Stamp}
 use Rattle.cs_trigram.specs.declared.queries.Query.{Query}
 use Rattle.cs_project.specs.declared.binary.BinaryFiles.{BinaryFiles}
 use Rattle.cs_project.specs.declared.form.ShowOptions.{ShowOptions}

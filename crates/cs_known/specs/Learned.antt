@@ -4,7 +4,7 @@ use Rattle.std.specs.FinMap as map'
 use Rattle.std.specs.List.{AllByRecursion}
 use Rattle.cs_tree.specs.Snapshot.{Item, file}
 use Rattle.cs_tree.specs.Reachability.{read_item}
-use Rattle.cs_tree.specs.declared.look.Stamp.{Stamp}
+use Rattle.cs_tree.specs.declared.tree.Stamp.{Stamp}
 use Rattle.cs_trigram.specs.Text.{text_trigrams, limits}
 use Rattle.cs_index.specs.OpenedParts.{Parts, files_in}
 use Rattle.cs_project.specs.Shown.{is_binary}

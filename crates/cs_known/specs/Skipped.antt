@@ -2,7 +2,7 @@
 use Rattle.std.specs.Prelude.{ℕ, Bool, true, false, not, ◌&&◌, ◌||◌, List, Option, Some, None, bytes_eq}
 use Rattle.std.specs.FinMap as map'
 use Rattle.std.specs.List.{list_any}
-use Rattle.cs_tree.specs.declared.look.Stamp.{Stamp}
+use Rattle.cs_tree.specs.declared.tree.Stamp.{Stamp}
 use Rattle.cs_trigram.specs.Trigram.{has}
 use Rattle.cs_trigram.specs.Query.{matches_set}
 use Rattle.cs_trigram.specs.declared.queries.Query.{Query}

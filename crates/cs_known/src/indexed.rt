@@ -1,7 +1,7 @@
 // The texts of the index of a state, one after another.
 ghost use Rattle.std.specs.Prelude.{◌≡◌, ℕ, List, Some, true, false, IfOk, OnOk, slice_get};
 ghost use Rattle.cs_tree.specs.NameOrder.{bytes_cmp};
-ghost use Rattle.cs_tree.specs.declared.look.Stamp.{Stamp};
+ghost use Rattle.cs_tree.specs.declared.tree.Stamp.{Stamp};
 ghost use Rattle.cs_trigram.specs.Trigram.{Ascends, has};
 ghost use Rattle.cs_trigram.specs.declared.queries.Query.{Query};
 ghost use Rattle.cs_index.specs.NameReading.{ReadsNames};

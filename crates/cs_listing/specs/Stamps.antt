@@ -2,7 +2,7 @@
 use Rattle.std.specs.Prelude.{ℕ, ◌≡◌, ◌≢◌, List, true, Option, Some, IfSome, string_bytes}
 use Rattle.std.specs.List.{All}
 use Rattle.cs_tree.specs.Snapshot.{Snapshot}
-use Rattle.cs_tree.specs.declared.look.Stamp.{Stamp}
+use Rattle.cs_tree.specs.declared.tree.Stamp.{Stamp}
 use Rattle.cs_listing.specs.FolderReads.{entry_path, key_of}
 use Rattle.cs_listing.specs.Entries.{entry_key}
 use Rattle.cs_listing.specs.declared.entries.Entry.{Entry}

@@ -1,7 +1,7 @@
 -- Values of the definitions, from a program in Python.
 use Rattle.std.proofs.Common.{◌≡◌, refl, [], ◌∷◌, ◌++◌}
 use Rattle.std.specs.Prelude.{codes}
-use Rattle.cs_tree.specs.declared.look.Stamp.{Stamp}
+use Rattle.cs_tree.specs.declared.tree.Stamp.{Stamp}
 use Rattle.cs_state.specs.Known.{Known, binary}
 use Rattle.cs_state.specs.StateFile.{eight_bytes, other_bytes, stamp_bytes, state_bytes, with_end}
 use Rattle.cs_state.specs.Sums.{sum_bytes, sum_of, sums_of, words_of}

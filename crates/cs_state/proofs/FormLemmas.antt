@@ -6,7 +6,7 @@ use Rattle.std.proofs.lemmas.List.{take_all}
 use Rattle.std.proofs.lemmas.Nat.{from_be_bytes-to_be_bytes_8}
 use Rattle.std.proofs.Math.Seq.{drop-append_seam}
 use Rattle.cs_tree.specs.Store.{part_of}
-use Rattle.cs_tree.specs.declared.look.Stamp.{Stamp}
+use Rattle.cs_tree.specs.declared.tree.Stamp.{Stamp}
 use Rattle.cs_state.specs.Known.{Known}
 use Rattle.cs_state.specs.StateFile.{body_of, eight_bytes, other_bytes, stamp_bytes, state_bytes, state_magic, with_end}
 use Rattle.cs_state.specs.StateLengths.{AreLengths, HasForm}

@@ -6,7 +6,7 @@ use Rattle.std.proofs.lemmas.Bool.{eq-eqb}
 use Rattle.std.proofs.lemmas.List.{drop-drop, drop-take, take-append-drop, take-take}
 use Rattle.std.proofs.Math.Seq.{drop-append-add, take-append-add, take-append_seam, take-nil}
 use Rattle.cs_tree.specs.Store.{part_of}
-use Rattle.cs_tree.specs.declared.look.Stamp.{Stamp}
+use Rattle.cs_tree.specs.declared.tree.Stamp.{Stamp}
 use Rattle.cs_index.specs.Encoding.{IsString}
 use Rattle.cs_state.specs.Known.{Known, indexed}
 use Rattle.cs_state.specs.OtherReaders.{HasNoOther, IsFirstOther}

@@ -3,7 +3,7 @@ use Rattle.std.proofs.Common.{◌≡◌, ◌∙◌, ℕ, zero, suc, ◌+◌, ◌
 use Rattle.std.specs.Prelude.{◌<◌, MatchOption}
 use Rattle.std.proofs.lemmas.List.{drop-drop, take-take}
 use Rattle.cs_tree.specs.Store.{part_of}
-use Rattle.cs_tree.specs.declared.look.Stamp.{Stamp}
+use Rattle.cs_tree.specs.declared.tree.Stamp.{Stamp}
 use Rattle.cs_index.specs.Windows.{StandAt}
 use Rattle.cs_state.specs.StampReaders.{IsStampAt}
 use Rattle.cs_state.specs.StateFile.{eight_bytes, stamp_bytes}

@@ -5,7 +5,7 @@ use Rattle.std.specs.List.{flat_map}
 use Rattle.std.specs.Result.{is_ok}
 use Rattle.std.proofs.lemmas.Bool.{false≢true}
 use Rattle.std.proofs.lemmas.List.{flat_map_more, length-append}
-use Rattle.cs_tree.specs.declared.look.Stamp.{Stamp}
+use Rattle.cs_tree.specs.declared.tree.Stamp.{Stamp}
 use Rattle.cs_state.specs.Known.{Known}
 use Rattle.cs_state.specs.StateFile.{body_of, eight_bytes, other_bytes, stamp_bytes, state_bytes, state_magic, with_end}
 use Rattle.cs_state.specs.Sums.{sums_of}

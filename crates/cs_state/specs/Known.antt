@@ -1,6 +1,6 @@
 -- What earlier runs learned of the files of a project.
 use Rattle.std.specs.Prelude.{◌≡◌, ◌⊎◌, ℕ, Bool, ◌+◌, ◌&&◌, nat_eq, nat_lt, List, [], ◌∷◌}
-use Rattle.cs_tree.specs.declared.look.Stamp.{Stamp}
+use Rattle.cs_tree.specs.declared.tree.Stamp.{Stamp}
 use Rattle.cs_index.specs.OpenedParts.{Parts}
 
 abbrev pub is_same_stamp : Stamp → Stamp → Bool

@@ -1,6 +1,6 @@
 -- Files of a project that no index has.
 use Rattle.std.specs.Prelude.{ℕ, List}
-use Rattle.cs_tree.specs.declared.look.Stamp.{Stamp}
+use Rattle.cs_tree.specs.declared.tree.Stamp.{Stamp}
 use Rattle.cs_state.specs.Known.{Kept, Known, binary, apart}
 use Rattle.cs_state.specs.declared.others.Unindexed.{Unindexed}
 use Rattle.cs_state.specs.declared.others.Unindexed.TheVariants.{Binary, Apart}

@@ -1,7 +1,7 @@
 -- Which bytes are which state of a project.
 use Rattle.std.specs.Prelude.{◌≡◌, ◌≢◌, ◌<◌, ◌^◌, ℕ, List, [], ◌∷◌, ◌++◌, length}
 use Rattle.std.specs.List.{AllByRecursion}
-use Rattle.cs_tree.specs.declared.look.Stamp.{Stamp}
+use Rattle.cs_tree.specs.declared.tree.Stamp.{Stamp}
 use Rattle.cs_index.specs.Decoding.{DecodesAs}
 use Rattle.cs_index.specs.Encoding.{IsString}
 use Rattle.cs_state.specs.Known.{Known, ProjectState, indexed}

@@ -1,7 +1,7 @@
 -- Stamps that are read from the bytes of a store, by the ids of their names.
 use Rattle.std.specs.Prelude.{◌≡◌, ◌<◌, ◌≤◌, ◌+◌, ℕ, List, Option, Some, None, length, min}
 use Rattle.cs_tree.specs.Store.{part_of}
-use Rattle.cs_tree.specs.declared.look.Stamp.{Stamp}
+use Rattle.cs_tree.specs.declared.tree.Stamp.{Stamp}
 use Rattle.cs_state.specs.StateFile.{stamp_bytes}
 use Rattle.cs_state.specs.Windows.{IsPiece}
 use Rattle.cs_state.specs.declared.stamps.StampReader.{StampReader}

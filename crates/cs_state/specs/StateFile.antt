@@ -1,7 +1,7 @@
 -- The file of a project's state: its index, the stamp of each name of the index, the other files that are known, and sums.
 use Rattle.std.specs.Prelude.{ℕ, List, ◌∷◌, ◌++◌, length, codes, flat_map}
 use Rattle.std.specs.Int.{to_be_bytes, w64}
-use Rattle.cs_tree.specs.declared.look.Stamp.{Stamp}
+use Rattle.cs_tree.specs.declared.tree.Stamp.{Stamp}
 use Rattle.cs_state.specs.Known.{Kept, Known, indexed, binary, apart}
 use Rattle.cs_state.specs.Sums.{sums_of}
 

@@ -1,6 +1,6 @@
 -- The model of a writer of a state.
 use Rattle.std.specs.Prelude.{◌≡◌, ℕ, List, ◌++◌, length, min, flat_map}
-use Rattle.cs_tree.specs.declared.look.Stamp.{Stamp}
+use Rattle.cs_tree.specs.declared.tree.Stamp.{Stamp}
 use Rattle.cs_state.specs.Known.{Known}
 use Rattle.cs_state.specs.StateFile.{body_of, stamp_bytes}
 use Rattle.cs_state.specs.SummedOutputs.{IsSummedIfWhole, bytes_given}

@@ -1,6 +1,6 @@
 -- The lengths of the sections of a written state.
 use Rattle.std.specs.Prelude.{ℕ, List, length, flat_map}
-use Rattle.cs_tree.specs.declared.look.Stamp.{Stamp}
+use Rattle.cs_tree.specs.declared.tree.Stamp.{Stamp}
 use Rattle.cs_state.specs.Known.{Known}
 use Rattle.cs_state.specs.StateFile.{body_of, stamp_bytes}
 use Rattle.cs_state.specs.declared.state_lengths.StateLengths.{StateLengths}

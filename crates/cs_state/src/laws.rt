@@ -1,6 +1,6 @@
 // Laws of state files.
 ghost use Rattle.std.specs.Prelude.{◌≡◌, ◌<◌, ◌^◌, ℕ, List, length};
-ghost use Rattle.cs_tree.specs.declared.look.Stamp.{Stamp};
+ghost use Rattle.cs_tree.specs.declared.tree.Stamp.{Stamp};
 ghost use Rattle.cs_state.specs.Known.{Known};
 ghost use Rattle.cs_state.specs.StateFile.{state_bytes};
 ghost use Rattle.cs_state.specs.StateLengths.{HasForm};

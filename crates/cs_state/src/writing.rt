@@ -1,6 +1,6 @@
 // Writing a state.
 ghost use Rattle.std.specs.Prelude.{◌≡◌, ◌<◌, ◌^◌, ◌++◌, ◌∷◌, [], ℕ, List, IfOk, OnOk, length};
-ghost use Rattle.cs_tree.specs.declared.look.Stamp.{Stamp};
+ghost use Rattle.cs_tree.specs.declared.tree.Stamp.{Stamp};
 ghost use Rattle.cs_state.specs.Known.{Known};
 ghost use Rattle.cs_state.specs.Others.{other_of};
 ghost use Rattle.cs_state.specs.StateFile.{body_of, eight_bytes, stamp_bytes, state_bytes};

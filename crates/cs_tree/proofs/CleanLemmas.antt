@@ -8,7 +8,7 @@ use Rattle.std.specs.List.{fold}
 use Rattle.cs_tree.specs.Clean.{elements, with_element, path_of, absolute, clean_path, has_nul, longest_path}
 use Rattle.cs_tree.specs.Cleaning.{clean_fault}
 use Rattle.cs_tree.specs.PathParts.{parts_path, parts_fault}
-use Rattle.cs_tree.specs.declared.cleaning.PathFault.TheVariants.{Empty, Nul, TooLong}
+use Rattle.cs_tree.specs.declared.paths.PathFault.TheVariants.{Empty, Nul, TooLong}
 use Rattle.cs_tree.proofs.SplitLemmas.{elements-append}
 
 pub on_ok : {A E : Type 0} {P Q : Type 0} (answer : Result A E) → (P → Q) → OnOk answer P → OnOk answer Q

@@ -11,8 +11,8 @@ use Rattle.cs_tree.specs.Cover.{begins}
 use Rattle.cs_tree.specs.Clean.{is_clean, elements, with_element, with_slashes, path_of, absolute, clean_path, has_nul, longest_path}
 use Rattle.cs_tree.specs.Proper.{is_proper, is_proper_path}
 use Rattle.cs_tree.specs.Cleaning.{clean_fault, is_normalized}
-use Rattle.cs_tree.specs.declared.cleaning.PathFault.{PathFault}
-use Rattle.cs_tree.specs.declared.cleaning.PathFault.TheVariants.{Empty, Nul, TooLong}
+use Rattle.cs_tree.specs.declared.paths.PathFault.{PathFault}
+use Rattle.cs_tree.specs.declared.paths.PathFault.TheVariants.{Empty, Nul, TooLong}
 use Rattle.cs_tree.proofs.CleanLemmas.{path_absolute}
 use Rattle.cs_tree.proofs.SplitLemmas.{NoSlash, elements-append, elements-one, elements-some, HasFirst, proper_last}
 

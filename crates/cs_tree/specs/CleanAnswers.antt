@@ -1,7 +1,7 @@
 -- The answers of `clean`.
 use Rattle.std.specs.Prelude.{◌≡◌, ◌⊎◌, Option, Some, None, Result, Ok, Err, String}
-use Rattle.cs_tree.specs.declared.cleaning.PathFault.{PathFault}
-use Rattle.cs_tree.specs.declared.cleaning.PathFault.TheVariants.{TooLong, Memory}
+use Rattle.cs_tree.specs.declared.paths.PathFault.{PathFault}
+use Rattle.cs_tree.specs.declared.paths.PathFault.TheVariants.{TooLong, Memory}
 use Rattle.std.specs.declared.alloc.Global.{Global}
 
 -- The error is that of the first failed test, or an allocation failure, which may come before the length test. If no

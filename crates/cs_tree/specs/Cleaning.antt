@@ -2,8 +2,8 @@
 use Rattle.std.specs.Prelude.{◌&&◌, ℕ, Bool, nat_lt, length, List, [], ◌∷◌, if◌then◌else◌, Option, Some, None, is_none, bytes_eq}
 use Rattle.std.specs.Path.{slash}
 use Rattle.cs_tree.specs.Clean.{absolute, clean_path, is_clean, has_nul, longest_path}
-use Rattle.cs_tree.specs.declared.cleaning.PathFault.{PathFault}
-use Rattle.cs_tree.specs.declared.cleaning.PathFault.TheVariants.{Empty, Nul, TooLong}
+use Rattle.cs_tree.specs.declared.paths.PathFault.{PathFault}
+use Rattle.cs_tree.specs.declared.paths.PathFault.TheVariants.{Empty, Nul, TooLong}
 
 -- the error of the first failed test, if any
 abbrev pub clean_fault : List ℕ → List ℕ → Option PathFault

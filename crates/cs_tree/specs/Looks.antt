@@ -1,7 +1,7 @@
 -- What a look at a path shows. docs/PROMISES.md, "Trees and walks".
 use Rattle.std.specs.Prelude.{ℕ, ◌+◌, ◌*◌, ◌^◌, ℤ, pos, nat_lt, if◌then◌else◌, Option, Some, None}
 use Rattle.cs_tree.specs.declared.tree.Kind.{Kind}
-use Rattle.cs_tree.specs.declared.look.Seen.{Seen}
+use Rattle.cs_tree.specs.declared.tree.Seen.{Seen}
 
 -- the kind of the item
 abbrev pub kind_seen : Seen → Kind

@@ -3,8 +3,8 @@ use denote.Ref.{Bor}
 use Rattle.std.specs.Prelude.{map, ◌||◌, ℕ, nat_lt, length, List, [], if◌then◌else◌, Option, Some, None}
 use Rattle.std.specs.List.{fold}
 use Rattle.cs_tree.specs.Clean.{elements, with_element, path_of, has_nul, longest_path}
-use Rattle.cs_tree.specs.declared.cleaning.PathFault.{PathFault}
-use Rattle.cs_tree.specs.declared.cleaning.PathFault.TheVariants.{Nul, TooLong}
+use Rattle.cs_tree.specs.declared.paths.PathFault.{PathFault}
+use Rattle.cs_tree.specs.declared.paths.PathFault.TheVariants.{Nul, TooLong}
 
 -- the path of the elements of both texts, and its error
 abbrev pub parts_path : List ℕ → List ℕ → List ℕ

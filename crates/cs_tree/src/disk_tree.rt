@@ -14,11 +14,9 @@ ghost use Rattle.cs_tree.specs.FailureCount.{count_after};
 ghost use Rattle.cs_tree.specs.Looks.{kind_seen, nanoseconds_of};
 
 use crate::fault::{TreeFault, counted_answer};
-use crate::look::{Look, Seen, Stamp};
-use crate::ordering::order_names;
-use crate::paths::{is_absolute, is_element};
-use crate::retry::{gave_up, is_interrupted, retry_read};
-use crate::tree::{Kind, Listing, Tree};
+use crate::paths::{is_absolute, is_element, order_names};
+use crate::std_io::{gave_up, is_interrupted, retry_read};
+use crate::tree::{Kind, Listing, Look, Seen, Stamp, Tree};
 use memchr::memchr;
 use std::alloc::{AllocError, Global};
 use std::fs::{Metadata, OpenFile};

@@ -11,8 +11,7 @@ ghost use Rattle.cs_tree.specs.Store.{HasLength, ReadShows};
 
 use crate::fault::{IoFault, io_failure};
 use crate::mem_types::{MemSink, MemSource, MemStore};
-use crate::sink::Sink;
-use crate::source::Source;
+use crate::sink::{Sink, Source};
 use crate::store::Store;
 use std::alloc::Global;
 

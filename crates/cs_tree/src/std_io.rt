@@ -1,29 +1,18 @@
-// Sources and sinks over std's `Read` and `Write`.
-ghost use Rattle.std.specs.Prelude.{◌≡◌, ◌≢◌, ◌≤◌, ◌<◌, ℕ, List, [], Option, None, Ok, Err, IfOk, MatchResult, length, take};
+// Sources and sinks over std's `Read` and `Write`. A call that an interrupt (EINTR) ends is made
+// again.
+ghost use Rattle.std.specs.Prelude.{◌≡◌, ◌≢◌, ◌≤◌, ◌<◌, ℕ, List, [], Option, None, Ok, Err, IfOk, MatchResult, length, take, ◌↔◌, IfErr, IsTrue};
+ghost use Rattle.std.specs.Io.KnownBytes.{Keeps, ReadConsumes, WriteAppends};
+ghost use Rattle.std.specs.IoError.{error_kind};
 ghost use Rattle.cs_tree.specs.Transfers.{ReadGives, is_io_failure};
 ghost use Rattle.cs_tree.specs.Sinks.{Writes, Grows};
 ghost use Rattle.cs_tree.specs.FailureCount.{count_after};
-ghost use Rattle.std.specs.Io.KnownBytes.{Keeps, ReadConsumes, WriteAppends};
 ghost use Rattle.cs_tree.specs.Writers.{reader_of, writer_of};
 ghost use Rattle.cs_tree.specs.StreamModels.{SourceModel};
 
 use crate::fault::{IoFault, io_failure};
-use crate::retry::{retry_flush, retry_read, retry_write};
-use crate::sink::Sink;
-use crate::source::Source;
-use std::io::{self, Read, Write};
-
-/// The system's answer to a call. An error is `Failed`, and is counted.
-pub(crate) fn counted_call<A: Drop>(failed: &mut u64, answer: io::Result<A>) -> Result<A, IoFault>
-    ensures answer { MatchResult answer
-        (λ value. result ≡ Ok value) (λ _. result ≡ Err IoFault.Failed) }
-    ensures failed { failed.new ≡ count_after is_io_failure result failed.old }
-{
-    match answer {
-        Ok(value) => Ok(value),
-        Err(_) => Err(io_failure(failed)),
-    }
-}
+use crate::sink::{Sink, Source};
+use std::io::{self, ErrorKind, Read, Write};
+use std::os::unix::fs::FileExt;
 
 /// A source over a reader of std. It has no model. Every error of the reader is `Failed`, except
 /// that an interrupted read is retried.
@@ -117,4 +106,88 @@ impl<W: Write + Drop> Sink for StdSink<W> {
     fn failures(&self) -> u64 {
         self.failed
     }
+}
+
+/// The system's answer to a call. An error is `Failed`, and is counted.
+pub(crate) fn counted_call<A: Drop>(failed: &mut u64, answer: io::Result<A>) -> Result<A, IoFault>
+    ensures answer { MatchResult answer
+        (λ value. result ≡ Ok value) (λ _. result ≡ Err IoFault.Failed) }
+    ensures failed { failed.new ≡ count_after is_io_failure result failed.old }
+{
+    match answer {
+        Ok(value) => Ok(value),
+        Err(_) => Err(io_failure(failed)),
+    }
+}
+
+/// A read, retried while it is interrupted.
+pub(crate) fn retry_read<R: Read>(reader: &mut R, buf: &mut [u8]) -> io::Result<usize>
+    ensures within { IfOk result (λ n. n ≤ length buf.new) }
+    ensures retried { IfErr result (λ error. error_kind error ≢ ErrorKind.Interrupted) }
+    ensures bytes { ReadConsumes (R.remaining reader.old) (R.remaining reader.new) result buf.new }
+{
+    'tries: for _ in 0..u64::MAX {
+        match reader.read(buf) {
+            Err(error) if is_interrupted(&error) => {}
+            answer => return answer,
+        }
+    }
+    Err(gave_up())
+}
+
+/// A read by offset, retried while it is interrupted.
+pub(crate) fn retry_read_at<F: FileExt>(file: &F, buf: &mut [u8], at: u64) -> io::Result<usize>
+    ensures within { IfOk result (λ n. n ≤ length buf.new) }
+    ensures retried { IfErr result (λ error. error_kind error ≢ ErrorKind.Interrupted) }
+{
+    'tries: for _ in 0..u64::MAX {
+        match file.read_at(buf, at) {
+            Err(error) if is_interrupted(&error) => {}
+            answer => return answer,
+        }
+    }
+    Err(gave_up())
+}
+
+/// Whether the error is an interrupt.
+pub(crate) fn is_interrupted(error: &io::Error) -> bool
+    ensures { IsTrue result ↔ (error_kind error.now ≡ ErrorKind.Interrupted) }
+{
+    error.kind() == ErrorKind::Interrupted
+}
+
+/// The error after 2^64 - 1 interrupted calls.
+pub(crate) fn gave_up() -> io::Error
+    ensures { error_kind result ≢ ErrorKind.Interrupted }
+{
+    io::Error::from(ErrorKind::TimedOut)
+}
+
+/// A write, retried while it is interrupted.
+fn retry_write<W: Write>(writer: &mut W, buf: &[u8]) -> io::Result<usize>
+    ensures within { IfOk result (λ n. n ≤ length buf.now) }
+    ensures retried { IfErr result (λ error. error_kind error ≢ ErrorKind.Interrupted) }
+    ensures bytes { WriteAppends (W.contents writer.old) (W.contents writer.new) result buf.now }
+{
+    'tries: for _ in 0..u64::MAX {
+        match writer.write(buf) {
+            Err(error) if is_interrupted(&error) => {}
+            answer => return answer,
+        }
+    }
+    Err(gave_up())
+}
+
+/// A flush, retried while it is interrupted.
+fn retry_flush<W: Write>(writer: &mut W) -> io::Result<()>
+    ensures retried { IfErr result (λ error. error_kind error ≢ ErrorKind.Interrupted) }
+    ensures bytes { Keeps (W.contents writer.old) (W.contents writer.new) }
+{
+    'tries: for _ in 0..u64::MAX {
+        match writer.flush() {
+            Err(error) if is_interrupted(&error) => {}
+            answer => return answer,
+        }
+    }
+    Err(gave_up())
 }

@@ -11,9 +11,8 @@ ghost use Rattle.std.specs.List.{AllByRecursion, ends_with};
 ghost use Rattle.cs_tree.specs.Cover.{covers, is_covered};
 ghost use Rattle.cs_tree.specs.WalkSteps.{GathersIn, AreFaultsDistinct, KeepsCount, KeepsTo, AddsFewFaults, IsStatusIn, CountsStatus, IsEntered, LooksUp, descends_to, is_file_seen, fault_seen, names_seen, children, named_if, fault_if, is_walked as is_walked', KeepsPathLimit};
 
-use crate::cleaning::LONGEST_PATH;
 use crate::fault::TreeFault;
-use crate::ordering::order_names;
+use crate::paths::{LONGEST_PATH, order_names};
 use crate::tree::{Kind, Listing, Tree};
 use std::alloc::{AllocError, Global};
 

@@ -11,8 +11,8 @@ use Rattle.std_alloc.proofs.SendSync.{lies}
 use Rattle.std_heap.specs.declared.Global.{Global}
 use Rattle.std_heap.proofs.Global.TheSendSync as allocator
 use Rattle.codesearch_c.specs.Slots.{holds}
-use Rattle.codesearch_c.specs.declared.held.Held.{Held}
-use Rattle.codesearch_c.specs.contracts.held.Held as Held
+use Rattle.codesearch_c.specs.declared.slot.Held.{Held}
+use Rattle.codesearch_c.specs.contracts.slot.Held as Held
 use Rattle.codesearch_c.specs.contracts.slot.Handle.{the_row, the_type}
 use Rattle.codesearch_c.proofs.SendLemmas.{held_send}
 

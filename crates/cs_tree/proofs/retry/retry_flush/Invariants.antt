@@ -1,7 +1,0 @@
-use Rattle.std.specs.Io.KnownBytes.{Keeps}
-use Rattle.cs_tree.proofs.retry.retry_flush.Given as goal
-
-abbrev pub invariant-tries : goal.invariant-tries
-invariant-tries g l = record {
-  keeps : Keeps (g.W.Write.contents l.initial.writer) (g.W.Write.contents l.writer);
-}

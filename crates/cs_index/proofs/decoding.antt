@@ -5,7 +5,6 @@ pub mod FirstFailure
 pub mod IndexFields
 pub mod NameOffsets
 pub mod PartsAreValid
-pub mod ReopenedSections
 pub mod StringScan
 pub mod StringSections
 pub mod VarintGroups

@@ -1,6 +1,6 @@
 -- The model of a `Builder`, and the errors of `add`.
 -- docs/FORMAT.md, "The index as it is written".
-use Rattle.std.specs.Prelude.{◌≡◌, ℕ, ◌-◌, ◌≤◌, Bool, true, false, not, ◌&&◌, nat_eq, nat_lt, List, [], ◌∷◌, ◌++◌, length, slice_get}
+use Rattle.std.specs.Prelude.{◌≡◌, ℕ, ◌-◌, ◌≤◌, ◌<◌, Bool, true, false, not, ◌&&◌, nat_eq, nat_lt, List, [], ◌∷◌, ◌++◌, length, slice_get}
 use Rattle.cs_tree.specs.PathSet.{Paths}
 use Rattle.cs_tree.specs.NameOrder.{bytes_cmp}
 use Rattle.cs_tree.specs.NamesAscending.{are_ascending}
@@ -11,7 +11,7 @@ use Rattle.std.specs.Ordering.{is_lt}
 use Rattle.std.specs.FinMap as map'
 use Rattle.cs_tree.specs.PathSet as set'
 use Rattle.cs_tree.specs.Cover.{covers}
-use Rattle.cs_index.specs.Encoding.{Entry, Files, names_of, IsString}
+use Rattle.cs_index.specs.Encoding.{Entry, Files, encoding_of, names_of, IsString}
 use Rattle.cs_index.specs.MaxNames.{max_names}
 
 -- The paths, and the names that were added, each with its trigrams.
@@ -22,6 +22,10 @@ pub record Built : Type 0 where
 -- with one more name
 abbrev pub with_entry : Built → List ℕ → List ℕ → Built
 with_entry built name trigrams = record { paths = built.paths; entries = built.entries ++ (name, trigrams) ∷ [] }
+
+-- the encoding is longer than this, whatever entries are added
+abbrev pub IsAlwaysLonger : ℕ → Built → Type 0
+IsAlwaysLonger limit built = (more : List Entry) → limit < length (encoding_of built.paths (built.entries ++ more))
 
 -- the text is not empty and contains no NUL
 abbrev pub is_storable : List ℕ → Bool

@@ -2,9 +2,9 @@
 -- docs/FORMAT.md, "The index as it is read".
 use Rattle.std.specs.Prelude.{◌≡◌, ◌<◌, ◌≤◌, ◌⊎◌, ℕ, ◌+◌, ◌-◌, List, [], ◌++◌, length, drop}
 use Rattle.cs_index.specs.PostingLists.{Ids, onto, read_ids}
-use Rattle.cs_index.specs.declared.reading.list_decoder.ListDecoder.{ListDecoder}
-use Rattle.cs_index.specs.declared.reading.list_decoder.Step.{Step}
-use Rattle.cs_index.specs.declared.reading.list_decoder.Step.TheVariants.{Id, End}
+use Rattle.cs_index.specs.declared.reading.postings.ListDecoder.{ListDecoder}
+use Rattle.cs_index.specs.declared.reading.postings.Step.{Step}
+use Rattle.cs_index.specs.declared.reading.postings.Step.TheVariants.{Id, End}
 
 -- the ids of the bytes that follow
 abbrev pub ids_ahead : ListDecoder → List ℕ → Ids

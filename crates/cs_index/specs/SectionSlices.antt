@@ -1,6 +1,6 @@
 -- The sections that slices borrow.
 use Rattle.std.specs.Prelude.{◌≡◌, ◌≤◌, ℕ, List, length}
-use Rattle.cs_index.specs.declared.reading.section_slices.SectionSlices.{SectionSlices}
+use Rattle.cs_index.specs.declared.reading.section_offsets.SectionSlices.{SectionSlices}
 use Rattle.cs_index.specs.Encoding.{SectionBytes}
 use Rattle.cs_index.specs.Stored.{sections_at}
 use Rattle.cs_index.specs.StoredOpening.{AreAscendingOffsets}

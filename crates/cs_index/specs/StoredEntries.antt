@@ -9,8 +9,8 @@ use Rattle.cs_index.specs.Answerable.{mentions}
 use Rattle.cs_index.specs.Encoding.{ListEntry}
 use Rattle.cs_index.specs.Opening.{entries_in, rises}
 use Rattle.cs_index.specs.Postings.{entry_of, has_entry}
-use Rattle.cs_index.specs.declared.reading.stored_entries.Entry.{Entry}
-use Rattle.cs_index.specs.declared.reading.stored_entries.StoredEntries.{StoredEntries}
+use Rattle.cs_index.specs.declared.reading.entries.Entry.{Entry}
+use Rattle.cs_index.specs.declared.reading.entries.StoredEntries.{StoredEntries}
 
 -- The bytes have this list index where the entries stand.
 pub record HasEntries (bytes : List ℕ) (s : StoredEntries) (list_index : List ℕ) : Type 0 where

@@ -1,6 +1,6 @@
 -- The paths, the names and the tables of an index, which are in memory. Its posting lists may be in a store.
 -- docs/FORMAT.md, "The index as it is read".
-use Rattle.std.specs.Prelude.{◌≡◌, ◌<◌, ◌-◌, true, ℕ, List, length, Result, Ok, Err}
+use Rattle.std.specs.Prelude.{◌≡◌, ◌<◌, ◌-◌, true, ℕ, List, length, slice_range, Result, Ok, Err}
 use Rattle.std.specs.List.{AllByRecursion, list_all}
 use Rattle.cs_index.specs.declared.fault.IndexFault.{IndexFault}
 use Rattle.cs_index.specs.declared.reading.section_offsets.SectionOffsets.{SectionOffsets}
@@ -20,6 +20,15 @@ pub record TableParts : Type 0 where
 abbrev pub tables_of : List ℕ → List ℕ → List ℕ → SectionOffsets → TableParts
 tables_of paths names list_index starts =
     record { paths = texts_of paths; names = texts_of names; entries = entries_in list_index; starts = starts }
+
+-- the parts of an index that has these tables
+abbrev pub parts_with : List ℕ → TableParts → Parts
+parts_with bytes tables = record {
+  paths = tables.paths;
+  names = tables.names;
+  entries = tables.entries;
+  postings = slice_range bytes tables.starts.postings tables.starts.name_index;
+}
 
 -- the bytes open as this index, or with this error
 abbrev pub OpensAs : List ℕ → Result StoredParts IndexFault → Type 0

@@ -3,7 +3,7 @@ use Rattle.std.specs.Prelude.{◌≡◌, ℕ, ◌+◌, ◌*◌, Bool, true, ◌&
 use Rattle.cs_index.specs.declared.fault.IndexFault.{IndexFault}
 use Rattle.cs_index.specs.Encoding.{with_nul, starts_from, SectionBytes}
 use Rattle.cs_index.specs.OpenedParts.{Parts}
-use Rattle.cs_index.specs.Opening.{texts_of, is_section, is_names_section, is_name_index, is_list_index, numbers_from, read_sections, split_of}
+use Rattle.cs_index.specs.Opening.{texts_of, is_section, is_names_section, is_name_index, is_list_index, numbers_from, read_sections}
 
 -- what split bytes open as, or their error
 abbrev pub read_split : Result SectionBytes IndexFault → Result Parts IndexFault
@@ -32,13 +32,6 @@ pub record AreBoundedSections (paths names name_index list_index : List ℕ) (ro
   pub read : AreValidSections paths names name_index list_index room
   pub names_bound : length name_index < 2 ^ 32
   pub lists_bound : length list_index < 2 ^ 32
-
--- All sections of an opened index: they passed their tests, and are those of its bytes.
-pub record AreOpenedSections (bytes : List ℕ) (s : SectionBytes) : Type 0 where
-  pub read : AreValidSections s.paths s.names s.name_index s.list_index (length s.postings)
-  pub names_bound : length s.name_index < 2 ^ 32
-  pub lists_bound : length s.list_index < 2 ^ 32
-  pub split : split_of bytes ≡ Ok s
 
 -- names, and a name index of them that is shorter than 2^32 bytes
 pub record IsNameTable (names name_index : List ℕ) : Type 0 where

@@ -45,14 +45,6 @@ offsets_end bytes at offset within =
       ]
     ]
 
--- ---- the number of remaining entries
-
-pub one_entry : (long at : ℕ) → 11 ≤ long - at → (long - at) / 11 ≡ suc ((long - (at + 11)) / 11)
-one_entry long at h = omega (arith, h)
-
-pub no_entry : (long at : ℕ) → long - at < 11 → (long - at) / 11 ≡ 0
-no_entry long at h = omega (arith, h)
-
 -- ---- ascending trigrams
 
 pub rise_at : (bytes : List ℕ) (at n : ℕ) (j : ℕ) → rises (entries_from bytes at n) ≡ true → j + 1 < n →
@@ -74,25 +66,38 @@ rise_at bytes at (suc (suc n)) (suc j) up h =
     subst (λ k. trigram_at bytes k < trigram_at bytes (at + 11 * (suc j + 1))) here
     (subst (λ k. trigram_at bytes (at + 11 + 11 * j) < trigram_at bytes k) next rest)
 
-pub rise_far : (bytes : List ℕ) (n j more : ℕ) → rises (entries_from bytes 0 n) ≡ true → j + more < n →
-    trigram_at bytes (11 * j) ≤ trigram_at bytes (11 * (j + more))
-rise_far bytes n j zero up h = subst (λ k. trigram_at bytes (11 * j) ≤ trigram_at bytes (11 * k))
-    (let z : j ≡ j + 0 = omega arith in z) (omega arith)
-rise_far bytes n j (suc more) up h =
-    let prefix = rise_far bytes n j more up (omega (arith, h)) in
-    let last : trigram_at bytes (0 + 11 * (j + more)) < trigram_at bytes (0 + 11 * (j + more + 1)) =
-    rise_at bytes 0 n (j + more) up (omega (arith, h)) in
-    let here : 0 + 11 * (j + more) ≡ 11 * (j + more) = omega arith in
-    let next : 0 + 11 * (j + more + 1) ≡ 11 * (j + suc more) = omega arith in
-    let last' : trigram_at bytes (11 * (j + more)) < trigram_at bytes (11 * (j + suc more)) =
-    subst (λ k. trigram_at bytes k < trigram_at bytes (11 * (j + suc more))) here
-    (subst (λ k. trigram_at bytes (0 + 11 * (j + more)) < trigram_at bytes k) next last) in
-    omega (arith, prefix, last')
+rise_far : (bytes : List ℕ) (at n j more : ℕ) → rises (entries_from bytes at n) ≡ true → j + more + 1 < n →
+    trigram_at bytes (at + 11 * j) < trigram_at bytes (at + 11 * (j + more + 1))
+rise_far bytes at n j zero up h =
+    let same = ap (λ k. trigram_at bytes (at + 11 * k)) (let z : j + 1 ≡ j + 0 + 1 = omega arith in z) in
+    let next = rise_at bytes at n j up (omega (arith, h)) in
+    omega (arith, next, same)
+rise_far bytes at n j (suc more) up h =
+    let before = rise_far bytes at n j more up (omega (arith, h)) in
+    let last = rise_at bytes at n (j + more + 1) up (omega (arith, h)) in
+    let same = ap (λ k. trigram_at bytes (at + 11 * k)) (let z : j + more + 1 + 1 ≡ j + suc more + 1 = omega arith in z) in
+    omega (arith, before, last, same)
 
-pub rise_to : (bytes : List ℕ) (n j k : ℕ) → rises (entries_from bytes 0 n) ≡ true → j ≤ k → k < n →
-    trigram_at bytes (11 * j) ≤ trigram_at bytes (11 * k)
-rise_to bytes n j k up h g = subst (λ m. trigram_at bytes (11 * j) ≤ trigram_at bytes (11 * m))
-    (let z : j + (k - j) ≡ k = omega (arith, h) in z) (rise_far bytes n j (k - j) up (omega (arith, h, g)))
+-- later entries have greater trigrams
+pub rise_to : (bytes : List ℕ) → rises (entries_in bytes) ≡ true → (j k : ℕ) → j < k → k < length bytes / 11 →
+    trigram_at bytes (11 * j) < trigram_at bytes (11 * k)
+unfolding entries_in
+rise_to bytes up j k less h =
+    let far = rise_far bytes 0 (length bytes / 11) j (k - j - 1) up (omega (arith, less, h)) in
+    let first = ap (trigram_at bytes) (let z : 0 + 11 * j ≡ 11 * j = omega arith in z) in
+    let last = ap (trigram_at bytes) (let z : 0 + 11 * (j + (k - j - 1) + 1) ≡ 11 * k = omega (arith, less) in z) in
+    omega (arith, far, first, last)
+
+-- and entries with greater trigrams are later
+pub later : (bytes : List ℕ) → rises (entries_in bytes) ≡ true → (j k : ℕ) → j < length bytes / 11 →
+    trigram_at bytes (11 * j) < trigram_at bytes (11 * k) → j < k
+later bytes up j k h less = elim (cases_order j k) [
+  | inl same ↦ absurd (omega (arith, ap (λ i. trigram_at bytes (11 * i)) same, less))
+  | inr order ↦ elim order [
+    | inl before ↦ before
+    | inr after ↦ absurd (omega (arith, rise_to bytes up k j after h, less))
+  ]
+]
 
 -- ---- the entry of a trigram
 
@@ -125,14 +130,14 @@ none_from bytes g at (suc n) apart =
     ∙ none_from bytes g (at + 11) n (λ k l. subst (λ m. trigram_at bytes m ≢ g)
     (let z : at + 11 * (k + 1) ≡ at + 11 + 11 * k = omega arith in z) (apart (k + 1) (omega (arith, l))))
 
-pub entry_found : (bytes : List ℕ) (g position : ℕ) → position < length bytes / 11 →
-    ((k : ℕ) → k < position → trigram_at bytes (11 * k) ≢ g) → trigram_at bytes (11 * position) ≡ g →
-    entry_of (entries_in bytes) g ≡ Some (entry_at bytes (11 * position))
+pub entry_found : (bytes : List ℕ) (g position : ℕ) → rises (entries_in bytes) ≡ true → position < length bytes / 11 →
+    trigram_at bytes (11 * position) ≡ g → entry_of (entries_in bytes) g ≡ Some (entry_at bytes (11 * position))
 unfolding entries_in
-entry_found bytes g position h below is =
+entry_found bytes g position up h is =
     let here : 0 + 11 * position ≡ 11 * position = omega arith in
     found_from bytes g 0 (length bytes / 11) position h
-    (λ k l. subst (λ m. trigram_at bytes m ≢ g) (let z : 11 * k ≡ 0 + 11 * k = omega arith in z) (below k l))
+    (λ k l e. let less = rise_to bytes up k position l h in
+    let same = ap (trigram_at bytes) (let z : 11 * k ≡ 0 + 11 * k = omega arith in z) in omega (arith, less, same, e, is))
     (ap (trigram_at bytes) here ∙ is) ∙ ap (λ k. Some (entry_at bytes k)) here
 
 pub entry_none : (bytes : List ℕ) (g : ℕ) → ((k : ℕ) → k < length bytes / 11 → trigram_at bytes (11 * k) ≢ g) →
@@ -140,41 +145,6 @@ pub entry_none : (bytes : List ℕ) (g : ℕ) → ((k : ℕ) → k < length byte
 unfolding entries_in
 entry_none bytes g apart = none_from bytes g 0 (length bytes / 11)
     (λ k l. subst (λ m. trigram_at bytes m ≢ g) (let z : 11 * k ≡ 0 + 11 * k = omega arith in z) (apart k l))
-
--- the entries before one with a lower trigram, and from one on with a higher one
-pub lower_before : (bytes : List ℕ) (n middle g k : ℕ) → n ≡ length bytes / 11 → rises (entries_in bytes) ≡ true →
-    middle < n → trigram_at bytes (11 * middle) < g → k < middle + 1 → trigram_at bytes (11 * k) < g
-unfolding entries_in
-lower_before bytes n middle g k at up h less l =
-    let order = rise_to bytes (length bytes / 11) k middle up (omega (arith, l)) (omega (arith, h, at)) in
-    omega (arith, order, less)
-
-pub higher_from : (bytes : List ℕ) (n middle g k : ℕ) → n ≡ length bytes / 11 → rises (entries_in bytes) ≡ true →
-    g ≤ trigram_at bytes (11 * middle) → middle ≤ k → k < n → g ≤ trigram_at bytes (11 * k)
-unfolding entries_in
-higher_from bytes n middle g k at up more l h =
-    let order = rise_to bytes (length bytes / 11) middle k up l (omega (arith, h, at)) in
-    omega (arith, order, more)
-
--- a trigram that is not at its index in the ascending entries has no entry
-pub not_elsewhere : (bytes : List ℕ) (g position k : ℕ) → rises (entries_in bytes) ≡ true →
-    position < length bytes / 11 → ((j : ℕ) → j < position → trigram_at bytes (11 * j) < g) →
-    g ≤ trigram_at bytes (11 * position) → trigram_at bytes (11 * position) ≢ g → k < length bytes / 11 →
-    trigram_at bytes (11 * k) ≢ g
-unfolding entries_in
-not_elsewhere bytes g position k up within below above other l e =
-    elim (cases_order k position) [
-      | inl is ↦ other (ap (λ j. trigram_at bytes (11 * j)) (sym is) ∙ e)
-      | inr order ↦ elim order [
-        | inl before ↦ let less = below k before in omega (arith, e, less)
-        | inr behind ↦ let far = rise_to bytes (length bytes / 11) position k up (omega (arith, behind)) l in
-            omega (arith, e, far, above, other)
-      ]
-    ]
-
-pub in_from : (bytes : List ℕ) → entries_in bytes ≡ entries_from bytes 0 ((length bytes - 0) / 11)
-unfolding entries_in
-in_from bytes = ap (entries_from bytes 0) (let z : length bytes / 11 ≡ (length bytes - 0) / 11 = omega arith in z)
 
 length-from : (bytes : List ℕ) (at n : ℕ) → length (entries_from bytes at n) ≡ n
 length-from bytes at zero = refl

@@ -1,13 +1,12 @@
 -- Facts about the fields of an `Index`.
-use Rattle.std.proofs.Common.{◌≡◌, ℕ, ◌+◌, ◌-◌, ◌*◌, ◌<◌, ◌^◌, true, false, not, cond, eqb, List, length, map, ◌%◌, ◌&&◌, Err, ap, ◌∙◌, arith}
-use Rattle.cs_index.specs.ValidSections.{AreOpenedSections}
+use Rattle.std.proofs.Common.{◌≡◌, ℕ, ◌+◌, ◌-◌, ◌*◌, true, false, not, cond, eqb, List, length, map, ◌%◌, ◌&&◌, Err, ap, ◌∙◌, arith}
 use Rattle.std.proofs.lemmas.Bool.{and_parts, eqb-true}
 use Rattle.std.specs.Prelude.{nat_eq, Result, if◌then◌else◌, bytes_eq}
 use Rattle.cs_index.specs.declared.fault.IndexFault.{IndexFault}
 use Rattle.std.specs.List.{list_all, starts_with}
 use Rattle.cs_index.specs.declared.fault.IndexFault.TheVariants.{BadMagic, BadTrailer}
 use Rattle.cs_index.specs.Encoding.{magic, SectionBytes, starts_from, with_nul}
-use Rattle.cs_index.specs.Opening.{is_name_index, is_list_index, is_entry, rises, entries_in, texts_of, has_trailer, split_of, split_before, numbers_from}
+use Rattle.cs_index.specs.Opening.{is_name_index, is_list_index, is_entry, rises, entries_in, has_trailer, split_of, split_before, numbers_from}
 
 -- the sections of bytes that begin with the magic
 abbrev pub split_ended : List ℕ → Result SectionBytes IndexFault
@@ -42,6 +41,3 @@ entries_rise room bytes h =
     (and_parts (rises (entries_in bytes)) (list_all (is_entry room) (entries_in bytes))
     (and_parts (eqb (length bytes % 11) 0) (rises (entries_in bytes) && list_all (is_entry room) (entries_in bytes))
     h).1).0
-
-pub few_read : {bytes : List ℕ} (s : SectionBytes) → AreOpenedSections bytes s → length (texts_of s.names) < 2 ^ 31
-few_read s is = let long = offsets_long s.name_index (texts_of s.names) is.read.offsets in omega (arith, long, is.names_bound)

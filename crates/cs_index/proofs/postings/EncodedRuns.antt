@@ -13,7 +13,7 @@ use Rattle.cs_index.specs.AscendingIds.{ids_onward, max_ids, next_after, AscendW
 use Rattle.cs_index.specs.PostingLists.{Ids, read_ids}
 use Rattle.cs_index.specs.StoredLists.{before}
 use Rattle.cs_index.specs.PostingsInvariant.{remaining_ids}
-use Rattle.cs_index.specs.declared.reading.list_decoder.ListDecoder.{ListDecoder}
+use Rattle.cs_index.specs.declared.reading.postings.ListDecoder.{ListDecoder}
 use Rattle.cs_index.proofs.postings.StreamPush.{decoded-stream_of, rise_length, short_varint, stream_from, stream_more}
 use Rattle.cs_index.proofs.encoding.VarintRoundtrip.{read_prefix}
 use Rattle.cs_index.proofs.postings.IteratorSteps.{mark_step}

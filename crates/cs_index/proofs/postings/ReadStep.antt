@@ -5,8 +5,8 @@ use Rattle.cs_index.specs.ListDecoding.{IsNextId, IsStep, after_id, ids_ahead}
 use Rattle.cs_index.specs.PostingLists.{Ids, onto}
 use Rattle.cs_index.specs.Postings.{ids_given}
 use Rattle.cs_index.specs.PostingsInvariant.{remaining_ids}
-use Rattle.cs_index.specs.declared.reading.list_decoder.ListDecoder.{ListDecoder}
-use Rattle.cs_index.specs.declared.reading.list_decoder.Step.TheVariants.{End}
+use Rattle.cs_index.specs.declared.reading.postings.ListDecoder.{ListDecoder}
+use Rattle.cs_index.specs.declared.reading.postings.Step.TheVariants.{End}
 
 module _ (ended : Bool) (d : ListDecoder) (bytes : List ℕ) (now : Ids) (going : ended ≡ false)
     (is : remaining_ids ended d bytes ≡ now) where

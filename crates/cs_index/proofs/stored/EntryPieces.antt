@@ -1,16 +1,16 @@
 -- The entries of a list index that is tested piece by piece.
-use Rattle.std.proofs.Common.{◌≡◌, ℕ, zero, suc, ◌+◌, ◌-◌, ◌*◌, ◌/◌, ◌%◌, ◌<◌, ◌≤◌, Bool, true, false, ◌&&◌, ◌||◌, leb, ltb, eqb, List, [], ◌∷◌, ◌++◌, length, refl, sym, ap, ◌∙◌, arith, length-append, Option, Some, None, take}
+use Rattle.std.proofs.Common.{◌≡◌, ◌≢◌, ℕ, zero, suc, ◌+◌, ◌*◌, ◌/◌, ◌%◌, ◌<◌, ◌≤◌, Bool, true, false, ◌&&◌, ◌||◌, leb, ltb, eqb, List, [], ◌∷◌, ◌++◌, length, refl, sym, subst, ap, ◌∙◌, inl, inr, arith, length-append, Option, Some, None, take}
 use Rattle.cs_tree.specs.Store.{part_of}
 use Rattle.cs_index.proofs.stored.StoredEntries.{entry_part}
 use Rattle.std.proofs.Math.Seq.{take-append_seam, drop-append_seam, take-length}
 use Rattle.std.specs.Prelude.{IfSome}
 use Rattle.std.specs.Option.{IfNone, is_some}
-use Rattle.std.proofs.lemmas.Bool.{eq-eqb, le-leb, lt-ltb, ne_eqb}
+use Rattle.std.proofs.lemmas.Bool.{and_parts, cases_lt, eq-eqb, false≢true, le-leb, leb-true, lt-ltb, ne_eqb}
 use Rattle.std.proofs.lemmas.List.{append-nil}
 use Rattle.std.specs.List.{list_all}
 use Rattle.cs_trigram.specs.Trigram.{closing_trigram}
 use Rattle.cs_index.specs.Encoding.{ListEntry}
-use Rattle.cs_index.specs.Opening.{entries_from, entries_in, entry_at, is_entry, is_list_index, rises, trigram_at}
+use Rattle.cs_index.specs.Opening.{entries_from, entries_in, entry_at, is_entry, is_list_index, rises}
 use Rattle.cs_index.specs.SectionPieces.{are_entries}
 
 -- ---- both tests of entries at once
@@ -111,36 +111,77 @@ tested_is room bytes (Some next) whole some none =
 tested_is room bytes None whole some none =
     sym (list_index_tested room bytes whole ∙ ap (are_entries room 0) (sym (append-nil (entries_in bytes))) ∙ none [])
 
--- ---- the last entry that was tested
+-- ---- the entries of a test that has no branch
 
 -- an entry of `ff ff ff` counts no file
 abbrev pub is_closed : ListEntry → Bool
 is_closed e = ltb e.trigram closing_trigram || eqb e.count 0
 
--- the entry before an offset, if there is one
-abbrev pub is_last_closed : List ℕ → ℕ → Bool
-is_last_closed bytes zero = true
-is_last_closed bytes (suc n) = is_closed (entry_at bytes (suc n - 11))
+pub greatest_counts : (e : ListEntry) → e.trigram ≡ closing_trigram → e.count ≢ 0 → is_closed e ≡ true → ⊥
+greatest_counts e greatest some closed =
+    false≢true (sym ((λ i. ltb (greatest i) closing_trigram || eqb e.count 0) ∙ ne_eqb e.count 0 some) ∙ closed)
 
-pub lower_closed : (e : ListEntry) → e.trigram < closing_trigram → is_closed e ≡ true
-lower_closed e low = ap (λ b. b || eqb e.count 0) (lt-ltb e.trigram closing_trigram low)
+module _ (bytes : List ℕ) where
+  -- the entry at a position
+  abbrev pub nth : ℕ → ListEntry
+  nth k = entry_at bytes (11 * k)
 
-pub last_lower : (bytes : List ℕ) (at : ℕ) → (0 < at → trigram_at bytes (at - 11) < closing_trigram) → is_last_closed bytes at ≡ true
-last_lower bytes zero h = refl
-last_lower bytes (suc n) h = lower_closed (entry_at bytes (suc n - 11)) (h (omega arith))
+  abbrev pub Rises : ℕ → Type 0
+  Rises last = (k : ℕ) → k < last → (nth k).trigram < (nth (suc k)).trigram
 
--- one more entry, whose trigram is not less than `next`
-pub entry_follows : (room next : ℕ) (bytes : List ℕ) (at : ℕ) (es : List ListEntry) → is_last_closed bytes at ≡ true →
-    next ≤ trigram_at bytes at → leb ((entry_at bytes at).offset + 4) room ≡ true →
-    (is_last_closed bytes at && are_entries room next (entry_at bytes at ∷ es))
-    ≡ (is_last_closed bytes (at + 11) && are_entries room (trigram_at bytes at + 1) es)
-entry_follows room next bytes at es closed high fits =
-    let e = entry_at bytes at in
-    let rest = are_entries room (e.trigram + 1) es in
-    let far : is_last_closed bytes (at + 11) ≡ is_closed e =
-    ap (is_last_closed bytes) (let z : at + 11 ≡ suc (at + 10) = omega arith in z)
-    ∙ ap (λ n. is_closed (entry_at bytes n)) (let z : suc (at + 10) - 11 ≡ at = omega arith in z) in
-    ap (λ b. b && are_entries room next (e ∷ es)) closed
-    ∙ ap (λ b. b && ((leb (e.offset + 4) room && is_closed e) && rest)) (le-leb next e.trigram high)
-    ∙ ap (λ b. (b && is_closed e) && rest) fits
-    ∙ ap (λ b. b && rest) (sym far)
+module _ (bytes : List ℕ) (room last : ℕ) (more : List ListEntry) (up : Rises bytes last)
+    (fit : (k : ℕ) → k ≤ last → (nth bytes k).offset + 4 ≤ room) (closed : is_closed (nth bytes last) ≡ true)
+    (bound : (nth bytes last).trigram ≤ closing_trigram) where
+  below_last : (n k : ℕ) → k + n ≡ last → (nth bytes k).trigram + n ≤ (nth bytes last).trigram
+  below_last zero k is = let e = ap (λ i. (nth bytes i).trigram) (let z : k ≡ last = omega (arith, is) in z) in omega (arith, e)
+  below_last (suc n) k is =
+      let step = up k (omega (arith, is)) in
+      let far = below_last n (suc k) (omega (arith, is)) in
+      omega (arith, step, far)
+
+  one_fits : (n k : ℕ) → k + n ≡ last → is_entry room (nth bytes k) ≡ true
+  one_fits zero k is = (λ i. le-leb ((nth bytes k).offset + 4) room (fit k (omega (arith, is))) i
+      && (ap (λ j. is_closed (nth bytes j)) (let z : k ≡ last = omega (arith, is) in z) ∙ closed) i)
+  one_fits (suc n) k is = (λ i. le-leb ((nth bytes k).offset + 4) room (fit k (omega (arith, is))) i
+      && (lt-ltb (nth bytes k).trigram closing_trigram (let far = below_last (suc n) k is in omega (arith, far, bound)) i || eqb (nth bytes k).count 0))
+
+  pub all_fit : (n k least : ℕ) → k + n ≡ last → least ≤ (nth bytes k).trigram →
+      are_entries room least (entries_from bytes (11 * k) (suc n) ++ more) ≡ are_entries room ((nth bytes last).trigram + 1) more
+  all_fit zero k least is low =
+      (λ i. le-leb least (nth bytes k).trigram low i && (one_fits zero k is i && are_entries room ((nth bytes k).trigram + 1) more))
+      ∙ ap (λ j. are_entries room ((nth bytes j).trigram + 1) more) (let z : k ≡ last = omega (arith, is) in z)
+  all_fit (suc n) k least is low =
+      (λ i. le-leb least (nth bytes k).trigram low i && (one_fits (suc n) k is i
+      && are_entries room ((nth bytes k).trigram + 1) (entries_from bytes ((let z : 11 * k + 11 ≡ 11 * suc k = omega arith in z) i) (suc n) ++ more)))
+      ∙ all_fit n (suc k) ((nth bytes k).trigram + 1) (omega (arith, is)) (let step = up k (omega (arith, is)) in omega (arith, step))
+
+-- What holds of the entry at a position of `end` ones, if all fit.
+pub record IsFitting (bytes : List ℕ) (room end k : ℕ) : Type 0 where
+  pub fits : (nth bytes k).offset + 4 ≤ room
+  pub closed : is_closed (nth bytes k) ≡ true
+  pub next : suc k < end → (nth bytes k).trigram < (nth bytes (suc k)).trigram
+
+pub each_fits : (bytes : List ℕ) (room end : ℕ) (more : List ListEntry) (n k least : ℕ) → k + n ≡ end →
+    are_entries room least (entries_from bytes (11 * k) n ++ more) ≡ true →
+    (0 < n → least ≤ (nth bytes k).trigram) × ((i : ℕ) → k ≤ i → i < end → IsFitting bytes room end i)
+each_fits bytes room end more zero k least is all =
+    (λ some. absurd (omega (arith, some)), λ i low high. absurd (omega (arith, is, low, high)))
+each_fits bytes room end more (suc n) k least is all =
+    let e = nth bytes k in
+    let rest : Bool = are_entries room (e.trigram + 1) (entries_from bytes (11 * k + 11) n ++ more) in
+    let first = and_parts (leb least e.trigram) (is_entry room e && rest) all in
+    let second = and_parts (is_entry room e) rest first.1 in
+    let fits = and_parts (leb (e.offset + 4) room) (is_closed e) second.0 in
+    let on = each_fits bytes room end more n (suc k) (e.trigram + 1) (omega (arith, is))
+    (ap (λ at. are_entries room (e.trigram + 1) (entries_from bytes at n ++ more)) (let z : 11 * suc k ≡ 11 * k + 11 = omega arith in z) ∙ second.1) in
+    let here : IsFitting bytes room end k = record {
+      fits = leb-true (e.offset + 4) room fits.0;
+      closed = fits.1;
+      next = λ l. let above = on.0 (omega (arith, is, l)) in omega (arith, above);
+    } in (
+      λ _. leb-true least e.trigram first.0,
+      λ i low high. elim (cases_lt k i) [
+        | inl after ↦ on.1 i after high
+        | inr not ↦ subst (IsFitting bytes room end) (let z : k ≡ i = omega (arith, low, not) in z) here
+      ],
+    )

@@ -12,9 +12,9 @@ use Rattle.cs_index.specs.Encoding.{ListEntry, stream_of, three_bytes}
 use Rattle.cs_index.specs.PostingLists.{Ids, damage, onto, read_ids, read_list, read_varint, varint_at}
 use Rattle.cs_index.specs.ListDecoding.{HaveVarint, IsNextId, IsStep, after_id, ids_ahead}
 use Rattle.cs_index.specs.StoredLists.{ListState, before, bytes_left, ids_left, state_of, with_piece, GivesBelow, Holds, IsReady, IsStoredList, SkipsBelow}
-use Rattle.cs_index.specs.declared.reading.list_decoder.ListDecoder.{ListDecoder}
-use Rattle.cs_index.specs.declared.reading.list_decoder.Step.{Step}
-use Rattle.cs_index.specs.declared.reading.list_decoder.Step.TheVariants.{End}
+use Rattle.cs_index.specs.declared.reading.postings.ListDecoder.{ListDecoder}
+use Rattle.cs_index.specs.declared.reading.postings.Step.{Step}
+use Rattle.cs_index.specs.declared.reading.postings.Step.TheVariants.{End}
 use Rattle.cs_index.specs.declared.reading.stored_list.StoredList.TheInside.{Inside}
 use Rattle.cs_index.proofs.postings.ListAtEntry.{list_short}
 use Rattle.cs_index.proofs.postings.EncodedRuns.{all_below, left_prefix, onward_below}

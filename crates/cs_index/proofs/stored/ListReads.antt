@@ -1,8 +1,8 @@
 -- Posting lists that are read one after another.
-use Rattle.std.proofs.Common.{◌≡◌, ℕ, zero, suc, ◌+◌, ◌-◌, ◌*◌, ◌≤◌, ◌^◌, true, false, cond, ◌&&◌, ltb, List, [], ◌∷◌, ◌++◌, length, take, drop, Option, Some, None, Result, Ok, Err, refl, sym, ap, subst, ◌∙◌, ◌⊎◌, inl, inr, arith, length-drop, slice_get}
+use Rattle.std.proofs.Common.{◌≡◌, ℕ, zero, suc, ◌+◌, ◌-◌, ◌*◌, ◌≤◌, ◌^◌, true, false, cond, ◌&&◌, ltb, List, [], ◌∷◌, ◌++◌, length, take, drop, Option, Some, None, refl, sym, ap, subst, ◌∙◌, ◌⊎◌, inl, inr, arith, length-drop, slice_get}
 use Rattle.std.proofs.lemmas.Bool.{cases_Bool}
-use Rattle.std.proofs.lemmas.List.{append-nil, drop-drop, drop-take}
-use Rattle.std.specs.Prelude.{option_and_then, option_map, IfSome, OnOk, bytes_eq}
+use Rattle.std.proofs.lemmas.List.{append-nil}
+use Rattle.std.specs.Prelude.{option_and_then, option_map, IfSome, bytes_eq}
 use Rattle.cs_tree.specs.Store.{part_of}
 use Rattle.cs_index.specs.Encoding.{ListEntry, three_bytes}
 use Rattle.cs_index.specs.ListReading.{AreBytesOf, BytesAt, HasList, known_ids, list_in}
@@ -11,9 +11,9 @@ use Rattle.cs_index.specs.PostingLists.{Ids, damage, onto, read_ids, read_list, 
 use Rattle.cs_index.specs.StoredEntries.{entry_read}
 use Rattle.cs_index.specs.StoredOpening.{AreAscendingOffsets}
 use Rattle.cs_index.specs.Tables.{TableParts, TablesIn}
-use Rattle.cs_index.specs.declared.reading.stored_entries.Entry.{Entry}
+use Rattle.cs_index.specs.declared.reading.entries.Entry.{Entry}
 use Rattle.cs_index.proofs.encoding.VarintRoundtrip.{after_delta, below_limit, is_zero}
-use Rattle.cs_index.proofs.stored.ListPieces.{grow, holds_after, open_damaged, open_read, part_split, read_ready}
+use Rattle.cs_index.proofs.stored.ListPieces.{grow, holds_after, open_damaged, open_read, read_ready}
 use Rattle.cs_index.proofs.stored.ListSections.{stored_lists}
 use Rattle.cs_index.proofs.stored.Windows.{part_after}
 

@@ -1,12 +1,9 @@
 -- The lists of the trigrams of a query, in a section of a store.
 use Rattle.std.proofs.Common.{◌≡◌, ℕ, ◌-◌, ◌/◌, true, List, [], ◌∷◌, length, map, take, drop, refl, sym, ap, ◌∙◌, inl, Result, Ok, Err, Vec, Global, arith, length-drop, length-take}
-use Rattle.std.proofs.lemmas.List.{take_all}
 use Rattle.std.specs.Prelude.{option_map, unwrap_or, IfErr, IfOk}
 use Rattle.std.specs.List.{AllByRecursion}
 use Rattle.cs_tree.specs.Store.{part_of}
-use Rattle.cs_index.specs.Opening.{entries_in, parts_of, rises}
-use Rattle.cs_index.specs.SectionSlices.{borrowed_sections}
-use Rattle.cs_index.specs.declared.reading.section_slices.SectionSlices.{SectionSlices}
+use Rattle.cs_index.specs.Opening.{entries_in, rises}
 use Rattle.cs_index.specs.declared.reading.section_offsets.SectionOffsets.{SectionOffsets}
 use Rattle.cs_index.specs.OpenedParts.{Parts, ids_read}
 use Rattle.cs_index.specs.Postings.{nothing_read, read_for, IsListFault}
@@ -20,7 +17,7 @@ use Rattle.cs_index.specs.Stored.{StandsIn, StoredParts, sections_at}
 use Rattle.cs_index.specs.StoredEntries.{entry_read, trigrams_listed, HasEntries}
 use Rattle.cs_index.specs.StoredLists.{HasLists}
 use Rattle.cs_index.specs.StoredOpening.{AreAscendingOffsets}
-use Rattle.cs_index.specs.declared.reading.stored_entries.Entry.{Entry}
+use Rattle.cs_index.specs.declared.reading.entries.Entry.{Entry}
 use Rattle.cs_index.specs.declared.reading.stored_list.ListSection.{ListSection}
 use Rattle.cs_index.proofs.decoding.DecodableBytesOpen.{pass_from, rise_from, Pass}
 use Rattle.cs_index.proofs.decoding.IndexFields.{entries_rise}
@@ -28,7 +25,7 @@ use Rattle.cs_index.proofs.stored.SectionReads.{stands_read}
 use Rattle.cs_index.proofs.stored.StoredEntries.{IsFound}
 
 module _ (bytes : List ℕ) (s : ListSection) (parts : Parts) (has : HasLists bytes s parts) where
-  abbrev list_read : Entry → Ids
+  abbrev pub list_read : Entry → Ids
   list_read e = read_list (part_of bytes s.start s.room) s.name_count (entry_read e)
 
   read_found : (e : Entry) → IsFound parts.entries e → list_read e ≡ read_for parts e.trigram
@@ -59,18 +56,6 @@ module _ (page : Page) (query : Query) (parts : Parts) where
       IfErr answer (IsListFault (is_answerable parts query))
   fault_of_err (Ok ids) are = tt
   fault_of_err (Err fault) are = inl are
-
--- the entries of an index in memory, in a store of its list index, and its lists, in a store of its posting lists
-pub entries_of : (list_index : List ℕ) → rises (entries_in list_index) ≡ true →
-    HasEntries list_index (record { start = 0; count = length list_index / 11 }) list_index
-entries_of list_index up = record { there = take_all (length list_index) list_index (omega arith); count = refl; rise = up }
-
-pub section_of : (s : SectionSlices) (now : Parts) (count : ℕ) → parts_of (borrowed_sections s) ≡ now → count ≡ length now.names
-    → HasLists s.postings.now (record { start = 0; room = length s.postings.now; name_count = count }) now
-section_of s now count is counted = record {
-  postings = sym (ap (λ (p : Parts). p.postings) is) ∙ sym (take_all (length s.postings.now) s.postings.now (omega arith));
-  names = sym counted;
-}
 
 -- ---- the sections of a stored index
 

@@ -4,7 +4,7 @@ use Rattle.std.proofs.Common.{◌≡◌, ◌≢◌, ◌⊎◌, ℕ, ◌+◌, ◌
 use Rattle.cs_index.proofs.stored.StoredEntries.{number_part}
 use Rattle.std.proofs.Math.Seq.{take-nil}
 use Rattle.std.proofs.lemmas.Bool.{cases_Bool, cases_lt, eq-eqb, eqb-true, ne_eqb}
-use Rattle.std.proofs.lemmas.List.{append-nil, drop_at, take_at, drop-take, drop-drop, length_push, take-take, drop_all, take_all}
+use Rattle.std.proofs.lemmas.List.{append-nil, take_at, drop-take, drop-drop, length_push, take-take, drop_all, take_all}
 use Rattle.std.proofs.lemmas.Str.{is_utf8-from_IsUtf8}
 use Rattle.std.proofs.Math.Bool.{and-false, and-true, and_assoc}
 use Rattle.std.specs.List.{AllByRecursion, concat}
@@ -53,16 +53,6 @@ pub string_more : (section text next tail : List ℕ) (texts : List (List ℕ)) 
     IsString text → AreStrings tail texts next → AreStrings tail (text ∷ texts) section
 string_more section text next tail texts e is strings =
     ((is, strings.0), e ∙ ap (λ r. with_nul text ++ r) strings.1 ∙ sym (append_assoc (with_nul text) (run_bytes texts) tail))
-
--- what follows the strings is the rest of the bytes
-pub rest_dropped : (piece rest : List ℕ) (texts : List (List ℕ)) → AreStrings rest texts piece →
-    rest ≡ drop (length piece - length rest) piece
-rest_dropped piece rest texts strings =
-    let n : ℕ = length piece - length rest in
-    let l : length piece ≡ length (run_bytes texts ++ rest) = ap length strings.1 in
-    let a = length-append (run_bytes texts) rest in
-    let long : length (run_bytes texts) ≡ n = omega (arith, l, a) in
-    sym (ap (drop n) strings.1 ∙ drop_at (run_bytes texts) rest n long)
 
 -- the strings are the first bytes
 pub run_taken : (piece : List ℕ) (n : ℕ) (texts : List (List ℕ)) → n ≤ length piece →

@@ -1,21 +1,22 @@
 -- Entries that are read from a store by position.
-use Rattle.std.proofs.Common.{◌≡◌, ℕ, suc, ◌+◌, ◌*◌, ◌<◌, ◌≤◌, cond, List, [], ◌∷◌, ◌++◌, length, take, drop, get_or, Option, None, Some, refl, sym, ap, subst, ◌∙◌, arith, append_assoc, drop-cons, length-drop, length-take}
+use Rattle.std.proofs.Common.{◌≡◌, ℕ, zero, suc, ◌+◌, ◌*◌, ◌<◌, ◌≤◌, cond, List, [], ◌∷◌, ◌++◌, length, take, drop, get_or, Option, None, Some, refl, sym, ap, subst, ◌∙◌, arith, append_assoc, drop-cons, drop-drop, length-drop, length-take}
 use Rattle.cs_tree.proofs.GatherLemmas.{all-append}
 use Rattle.std.proofs.lemmas.List.{append-nil, get_or-drop, get_or-take, map-append, take_all, take_more}
 use Rattle.std.proofs.lemmas.List.Elements.{filter-append}
 use Rattle.std.specs.List.{AllByRecursion}
 use Rattle.std.specs.Option.{is_some}
+use Rattle.std.specs.Simd.{first_chunks}
 use Rattle.std.specs.Prelude.{filter, option_map, IfSome}
 use Rattle.cs_trigram.specs.Trigram.{Ascends}
 use Rattle.cs_trigram.proofs.SetLemmas.{ascends_tail}
 use Rattle.cs_index.specs.Postings.{entry_of, has_entry}
-use Rattle.cs_index.specs.declared.reading.stored_entries.Entry.{Entry}
+use Rattle.cs_index.specs.declared.reading.entries.Entry.{Entry}
 use Rattle.std.specs.Int.{from_be_bytes, w32}
 use Rattle.cs_tree.specs.Store.{part_of}
 use Rattle.cs_index.specs.Encoding.{ListEntry}
 use Rattle.cs_index.specs.Opening.{entry_at, number_at, trigram_at}
 use Rattle.cs_index.specs.StoredEntries.{entry_read, trigrams_listed, HasEntries}
-use Rattle.cs_index.specs.declared.reading.stored_entries.StoredEntries.{StoredEntries}
+use Rattle.cs_index.specs.declared.reading.entries.StoredEntries.{StoredEntries}
 
 -- ---- numbers of a part
 
@@ -48,6 +49,17 @@ entry_part bytes at len k h = λ i. record {
   offset = number_after bytes at len k 7 (omega (arith, h)) i;
 }
 
+-- a chunk is the bytes of its entry
+pub chunk_entry : (bytes : List ℕ) (n k : ℕ) (d : List ℕ) → k < n → entry_at (get_or (first_chunks 11 n bytes) k d) 0 ≡ entry_at bytes (11 * k)
+chunk_entry bytes n k d h = ap (λ p. entry_at p 0) (chunk n bytes k h) ∙ entry_part bytes (11 * k) 11 0 (omega arith)
+    ∙ ap (entry_at bytes) (let z : 11 * k + 0 ≡ 11 * k = omega arith in z)
+  where
+    chunk : (n : ℕ) (bytes : List ℕ) (k : ℕ) → k < n → get_or (first_chunks 11 n bytes) k d ≡ part_of bytes (11 * k) 11
+    chunk zero bytes k h = absurd (omega (arith, h))
+    chunk (suc n) bytes zero h = refl
+    chunk (suc n) bytes (suc k) h = chunk n (drop 11 bytes) k (omega (arith, h)) ∙ ap (take 11) (drop-drop (11 * k) 11 bytes
+        ∙ ap (λ at. drop at bytes) (let z : 11 + 11 * k ≡ 11 * suc k = omega arith in z))
+
 -- a buffer that is filled where the bytes do not end
 pub filled : (bytes buf : List ℕ) (at n : ℕ) → take n buf ≡ part_of bytes at (length buf) → at + length buf
     ≤ length bytes → buf ≡ part_of bytes at (length buf)
@@ -73,9 +85,6 @@ module _ (bytes list_index : List ℕ) (s : StoredEntries) (has : HasEntries byt
   entry_there =
       let c = has.count in
       sym (entry_part bytes s.start (length list_index) (11 * k) (omega (arith, c, h))) ∙ ap (λ bs. entry_at bs (11 * k)) has.there
-
-  pub trigram_there : trigram_at bytes (s.start + 11 * k) ≡ trigram_at list_index (11 * k)
-  trigram_there = ap (λ (e : ListEntry). e.trigram) entry_there
 
 -- ---- the entries that are found are listed
 

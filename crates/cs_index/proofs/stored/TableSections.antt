@@ -9,14 +9,14 @@ use Rattle.cs_index.specs.declared.fault.IndexFault.{IndexFault}
 use Rattle.cs_index.specs.declared.reading.section_offsets.SectionOffsets.{SectionOffsets}
 use Rattle.cs_index.specs.Encoding.{IsString, ListEntry, SectionBytes}
 use Rattle.cs_index.specs.OpenedParts.{Parts}
-use Rattle.cs_index.specs.Opening.{entries_in, is_entry, is_list_index, is_section, opening, parts_of, read_sections, rises, split_of, texts_of}
+use Rattle.cs_index.specs.Opening.{is_entry, is_list_index, is_section, opening, parts_of, read_sections, rises, split_of, texts_of}
 use Rattle.cs_index.specs.Stored.{StandsIn, StoredParts, sections_at}
 use Rattle.cs_index.specs.StoredOpening.{AreAscendingOffsets, with_lists}
-use Rattle.cs_index.specs.Tables.{AreValidTables, OpensAs, TableParts, TablesIn, lists_room, tables_of}
+use Rattle.cs_index.specs.Tables.{AreValidTables, OpensAs, TableParts, TablesIn, lists_room, parts_with, tables_of}
 use Rattle.cs_index.specs.ValidParts.{AreValidParts}
 use Rattle.cs_index.specs.ValidSections.{AreBoundedSections, read_split}
 use Rattle.cs_index.specs.SectionSlices.{AreSlicesOf, borrowed_sections}
-use Rattle.cs_index.specs.declared.reading.section_slices.SectionSlices.{SectionSlices}
+use Rattle.cs_index.specs.declared.reading.section_offsets.SectionSlices.{SectionSlices}
 use Rattle.cs_tree.specs.ByteList.{AreBytes}
 use Rattle.cs_index.proofs.decoding.DecodableBytesOpen.{pass_from, split_decodes}
 use Rattle.cs_index.proofs.decoding.IndexFields.{entries_rise, offsets_long}
@@ -112,6 +112,15 @@ opened_parts bytes answer is view opens =
     (found.0, subst (λ (p : StoredParts). StandsIn bytes p found.0) (sym view) found.1)
 
 -- ---- the tables of an index in memory
+
+module _ (bytes : List ℕ) (tables : TableParts) (parts : Parts) (is : TablesIn bytes tables parts) where
+  pub tables_open : opening bytes ≡ Ok parts
+  tables_open = opened bytes (sections_at bytes tables.starts) (Ok parts) (stands_split bytes _ parts is.stands) (stands_read bytes _ parts is.stands)
+
+  pub parts_are : parts_with bytes tables ≡ parts
+  parts_are =
+      let read = (pass_from (sections_at bytes tables.starts) parts (stands_read bytes _ parts is.stands)).are in
+      λ i. record { paths = is.stands.paths i; names = is.names i; entries = is.entries i; postings = (read i).postings }
 
 pub is_opened : (bytes : List ℕ) → IsOk (opening bytes) → (parts : Parts) × (opening bytes ≡ Ok parts)
 is_opened bytes some = by (opening bytes) refl some

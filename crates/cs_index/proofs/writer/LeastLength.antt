@@ -7,8 +7,8 @@ use Rattle.std.proofs.lemmas.List.{length-map}
 use Rattle.cs_trigram.specs.Trigram.{Ascends, closing_trigram, has, set_of_numbers}
 use Rattle.cs_trigram.specs.TrigramSets.{AreDistinct, IsTrigramSet}
 use Rattle.cs_trigram.proofs.SetLemmas.{ascends_set, ascends_tail, below_none, has-append, has-set_of_numbers, length-distinct}
-use Rattle.cs_index.specs.Built.{Built, with_entry}
-use Rattle.cs_index.specs.LeastLength.{least_length, IsAlwaysLonger}
+use Rattle.cs_index.specs.Built.{Built, IsAlwaysLonger, with_entry}
+use Rattle.cs_index.specs.LeastLength.{least_length}
 use Rattle.cs_index.specs.Encoding.{Entry, deltas_from, encoding_of, four_bytes, ids_from, name_offsets, names_of, posting_list_bytes, postings_of, sections_of, starts_from, stream_of, three_bytes, trigrams_of, varint, varint_within, with_nul, SectionBytes}
 use Rattle.cs_index.proofs.decoding.DecodingIsUnique.{lengths}
 use Rattle.cs_index.proofs.encoding.FixedWidthFields.{length-fours}

@@ -1,32 +1,32 @@
 // Candidates: the files whose trigrams match a query (Go: `PostingQuery` in index/read.go). The
 // query's form is evaluated over windows of ids, so that each posting list is read once.
-ghost use Rattle.std.specs.Prelude.{◌≡◌, ◌<◌, ◌≤◌, ◌+◌, ◌-◌, ◌⊎◌, ◌^◌, ◌++◌, ℕ, List, Some, map, take, true, false, filter, length, slice_index_or, IfOk, IfErr, OnOk, IfSome};
-ghost use Rattle.std.specs.List.{AllByRecursion, AllZip, list_all, range_with_len};
+ghost use Rattle.std.specs.Prelude.{◌≡◌, ◌<◌, ◌≤◌, ◌+◌, ◌-◌, ◌⊎◌, ◌^◌, ◌++◌, ℕ, List, Some, map, take, true, false, filter, length, slice_index_or, IfOk, IfErr, OnOk, ◌*◌, ◌||◌};
+ghost use Rattle.std.specs.List.{AllByRecursion, AllZip, range_with_len, list_any};
 ghost use Rattle.cs_tree.specs.KeepsStore.{KeepsStore};
 ghost use Rattle.cs_tree.specs.Store.{part_of};
 ghost use Rattle.cs_trigram.specs.Trigram.{has, Ascends};
-ghost use Rattle.cs_index.specs.Opening.{rises};
+ghost use Rattle.cs_index.specs.Opening.{entries_in};
 ghost use Rattle.cs_index.specs.OpenedParts.{Parts};
 ghost use Rattle.cs_index.specs.PostingLists.{read_list};
 ghost use Rattle.cs_index.specs.Postings.{IsListFault};
 ghost use Rattle.cs_index.specs.Candidates.{candidates_of, AreCandidates};
-ghost use Rattle.cs_index.specs.Answerable.{is_answerable};
+ghost use Rattle.cs_index.specs.AscendingIds.{max_ids};
+ghost use Rattle.cs_index.specs.Answerable.{is_answerable, mentions};
 ghost use Rattle.cs_index.specs.CandidatePages.{candidates_from, AreOnPage};
 ghost use Rattle.cs_index.specs.Form.{IsForm, number_matches};
 ghost use Rattle.cs_index.specs.Rows.{lists_are_whole, have_id, IsLeft, IsReadOn};
 ghost use Rattle.cs_index.specs.Stored.{StandsIn};
-ghost use Rattle.cs_index.specs.StoredEntries.{AreListed, entry_read, trigrams_listed};
-ghost use Rattle.cs_index.specs.StoredLists.{HasLists, Holds, IsSection, ids_left};
+ghost use Rattle.cs_index.specs.StoredOpening.{AreAscendingOffsets};
+ghost use Rattle.cs_index.specs.StoredEntries.{AreListed, entry_read, trigrams_listed, HasEntries};
+ghost use Rattle.cs_index.specs.StoredLists.{Holds, IsSection, ids_left};
 
 use crate::fault::IndexFault;
-use crate::reading::entries::ENTRY_LEN;
+use crate::reading::entries::{ENTRY_LEN, Entry, StoredEntries};
 use crate::reading::form::{Form, NOTHING, form_of};
 use crate::reading::index::Index;
-use crate::reading::query_trigrams::listed_entries;
-use crate::reading::rarest::{next_start, rarest_list};
-use crate::reading::rows::{IdWindow, row_at, rows_of};
+use crate::reading::rows::{IdWindow, next_start, rarest_list, row_at, rows_of};
+use crate::reading::section_offsets::SectionOffsets;
 use crate::reading::stored::StoredIndex;
-use crate::reading::stored_entries::{Entry, StoredEntries};
 use crate::reading::stored_list::{ListSection, StoredList};
 use cs_tree::{IoFault, MemStore, Store};
 use cs_trigram::Query;
@@ -76,23 +76,12 @@ impl<'a> Index<'a> {
         ensures whole { IfOk result (λ _. is_answerable self.now query.now ≡ true) }
         ensures fault { IfErr result (IsListFault (is_answerable self.now query.now)) }
     {
-        let mut list_index = MemStore::new(self.slices.list_index, usize::MAX);
-        let entries = StoredEntries {
-            start: 0,
-            count: self.slices.list_index.len() / ENTRY_LEN,
-        };
-        let mut postings = MemStore::new(self.slices.postings, usize::MAX);
-        let section = ListSection {
-            start: 0,
-            room: self.slices.postings.len(),
-            name_count: self.len(),
-        };
-        // No read of bytes in memory fails.
-        let Ok(listed) = listed_entries(alloc, &mut list_index, &entries, query) else {
-            return Err(IndexFault::Memory);
-        };
+        let mut store = MemStore::new(self.bytes, usize::MAX);
+        let starts = self.tables.starts();
+        let name_count = self.tables.name_count();
         let page = Page { from, most };
-        match candidates_in(alloc, &mut postings, &section, &listed, query, page) {
+        // No read of bytes in memory fails.
+        match candidates_in(alloc, &mut store, &starts, name_count, query, page) {
             Ok(answer) => answer,
             Err(_) => Err(IndexFault::Memory),
         }
@@ -112,55 +101,50 @@ impl StoredIndex {
             StandsIn bytes self.now parts → IfOk result (AreCandidates query.now parts) }
         ensures store { KeepsStore S.model S.size S.failed store.old store.new result }
     {
-        let starts = &self.starts;
-        let entries = StoredEntries {
-            start: starts.list_index,
-            count: (starts.trailer - starts.list_index) / ENTRY_LEN,
-        };
-        let section = ListSection {
-            start: starts.postings,
-            room: starts.name_index - starts.postings,
-            name_count: self.name_count,
-        };
-        let listed = listed_entries(alloc, store, &entries, query)?;
         let all = Page {
             from: 0,
             most: self.name_count as usize,
         };
-        candidates_in(alloc, store, &section, &listed, query, all)
+        candidates_in(alloc, store, &self.starts, self.name_count, query, all)
     }
 }
 
-/// A page of the ids of the names whose trigrams match the query, by the lists of its entries in a
-/// section of the store.
+/// A page of the ids of the names whose trigrams match the query, in the index of the store whose
+/// sections are at these offsets.
 fn candidates_in<S: Store>(
     alloc: Global,
     store: &mut S,
-    section: &ListSection,
-    listed: &[Entry],
+    starts: &SectionOffsets,
+    name_count: u32,
     query: &Query,
     page: Page,
 ) -> Result<Result<Vec<u32>, IndexFault>, IoFault>
-    requires section { IsSection section.now }
-    requires ascend { Ascends (trigrams_listed listed.now) }
+    requires order { AreAscendingOffsets starts.now }
+    requires few { name_count < max_ids }
     ensures answers { (bytes : List ℕ) → S.model store.old ≡ Some bytes → (parts : Parts) →
-        HasLists bytes section.now parts → rises parts.entries ≡ true →
-        AreListed query.now parts.entries listed.now → IfOk result (AreOnPage page query.now parts) }
+        (paths : List (List ℕ)) →
+        StandsIn bytes (record { paths = paths; name_count = name_count; starts = starts.now }) parts →
+        IfOk result (AreOnPage page query.now parts) }
     ensures store { KeepsStore S.model S.size S.failed store.old store.new result }
 {
-    let trigrams = trigrams_of(alloc, listed)?;
+    let entries = StoredEntries {
+        start: starts.list_index,
+        count: (starts.trailer - starts.list_index) / ENTRY_LEN,
+    };
+    let section = ListSection {
+        start: starts.postings,
+        room: starts.name_index - starts.postings,
+        name_count,
+    };
+    let listed = listed_entries(alloc, store, &entries, query)?;
+    let trigrams = trigrams_of(alloc, &listed)?;
     let form = form_of(alloc, &trigrams, query)?;
-    let mut lists = lists_of(alloc, store, section, listed)?;
-    let end = section.name_count;
-    let start = page.from.min(end);
-    let ids = meet(
-        alloc,
-        store,
-        &form,
-        &mut lists,
-        IdWindow { start, end },
-        page.most,
-    )?;
+    let mut lists = lists_of(alloc, store, &section, &listed)?;
+    let all = IdWindow {
+        start: page.from.min(name_count),
+        end: name_count,
+    };
+    let ids = meet(alloc, store, &form, &mut lists, all, page.most)?;
     let answer = if finish_all(store, lists)? {
         Ok(ids)
     } else {
@@ -316,4 +300,70 @@ fn finish_all<S: Store>(store: &mut S, mut lists: Vec<StoredList>) -> Result<boo
         }
     }
     Ok(true)
+}
+
+// ---- reading/query_trigrams: The trigrams of a query.
+/// The entries of the trigrams that a query mentions, ascending. A trigram without an entry has
+/// none.
+pub(crate) fn listed_entries<S: Store>(
+    alloc: Global,
+    store: &mut S,
+    entries: &StoredEntries,
+    query: &Query,
+) -> Result<Vec<Entry>, IoFault>
+    requires { entries.now.start + 11 * entries.now.count < 2 ^ 63 }
+    ensures listed { (bytes : List ℕ) → S.model store.old ≡ Some bytes → (list_index : List ℕ) →
+        HasEntries bytes entries.now list_index →
+        IfOk result (λ listed. AreListed query.now (entries_in list_index) listed.items) }
+    ensures ascend { IfOk result (λ listed. Ascends (trigrams_listed listed.items)) }
+    ensures store { KeepsStore S.model S.size S.failed store.old store.new result }
+{
+    let trigrams = mentioned_trigrams(alloc, query)?;
+    let mut listed = Vec::new(alloc);
+    for trigram in &trigrams {
+        if let Some(entry) = entries.find(store, *trigram)? {
+            listed.push(entry)?;
+        }
+    }
+    Ok(listed)
+}
+
+/// The trigrams that a query mentions, ascending.
+fn mentioned_trigrams(alloc: Global, query: &Query) -> Result<Vec<u32>, AllocError>
+    ensures mentioned { IfOk result (λ trigrams. (g : ℕ) → has trigrams.items g ≡ mentions query.now g) }
+    ensures ascend { IfOk result (λ trigrams. Ascends trigrams.items) }
+{
+    let mut trigrams = Vec::new(alloc);
+    gather(&mut trigrams, query)?;
+    trigrams.sort_unstable();
+    trigrams.dedup();
+    Ok(trigrams)
+}
+
+/// Appends the trigrams that a query mentions.
+#[cycle(gather)]
+fn gather(trigrams: &mut Vec<u32>, query: &Query) -> Result<(), AllocError>
+    ensures { OnOk result ((g : ℕ) →
+        has trigrams.new.items g ≡ (has trigrams.old.items g || mentions query.now g)) }
+{
+    match query {
+        Query::All | Query::Nothing => Ok(()),
+        Query::Tri(trigram) => {
+            trigrams.push(*trigram)?;
+            Ok(())
+        }
+        Query::And(members) | Query::Or(members) => gather_each(trigrams, members),
+    }
+}
+
+/// Appends the trigrams that the members mention.
+#[cycle(gather)]
+fn gather_each(trigrams: &mut Vec<u32>, members: &[Query]) -> Result<(), AllocError>
+    ensures { OnOk result ((g : ℕ) → has trigrams.new.items g
+        ≡ (has trigrams.old.items g || list_any (λ q. mentions q g) members.now)) }
+{
+    for member in members {
+        gather(trigrams, member)?;
+    }
+    Ok(())
 }

@@ -20,6 +20,7 @@ pub(crate) const FIRST_LIST: usize = 2;
 
 /// The slots for each list.
 const SLOTS_PER_LIST: usize = 16;
+
 /// But there are at least as many.
 const LEAST_SLOTS: usize = 1 << 14;
 
@@ -60,6 +61,28 @@ pub(crate) fn form_of(alloc: Global, trigrams: &[u32], query: &Query) -> Result<
         nodes: folding.nodes,
         root,
     })
+}
+
+/// The members of a number that is a node of this kind.
+pub(crate) fn members_of(
+    nodes: &[FormNode],
+    lists: usize,
+    is_and: bool,
+    number: usize,
+) -> Option<&[usize]>
+    requires short { lists < 2 ^ 62 }
+    requires form { IsForm lists nodes.now }
+    ensures exist { IfSome result (λ members. Exist lists nodes.now members.now) }
+    ensures matches { IfSome result (λ members. (bits : List Bool) → length bits ≡ lists →
+        number_matches bits nodes.now number ≡ members_match is_and (matched bits nodes.now) members.now) }
+{
+    let at = number.checked_sub(FIRST_LIST + lists)?;
+    let node = nodes.get(at)?;
+    if node.is_and == is_and {
+        Some(&node.members)
+    } else {
+        None
+    }
 }
 
 /// The number of a query.
@@ -186,28 +209,6 @@ fn add_member(
         None => node.members.push(number)?,
     }
     Ok(())
-}
-
-/// The members of a number that is a node of this kind.
-pub(crate) fn members_of(
-    nodes: &[FormNode],
-    lists: usize,
-    is_and: bool,
-    number: usize,
-) -> Option<&[usize]>
-    requires short { lists < 2 ^ 62 }
-    requires form { IsForm lists nodes.now }
-    ensures exist { IfSome result (λ members. Exist lists nodes.now members.now) }
-    ensures matches { IfSome result (λ members. (bits : List Bool) → length bits ≡ lists →
-        number_matches bits nodes.now number ≡ members_match is_and (matched bits nodes.now) members.now) }
-{
-    let at = number.checked_sub(FIRST_LIST + lists)?;
-    let node = nodes.get(at)?;
-    if node.is_and == is_and {
-        Some(&node.members)
-    } else {
-        None
-    }
 }
 
 /// The number of the list of a trigram; without a list, no file has it.

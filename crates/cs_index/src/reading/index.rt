@@ -1,15 +1,14 @@
 // An index that is read in place.
-ghost use Rattle.std.specs.Prelude.{◌≡◌, ◌==◌, ◌<◌, ◌^◌, ℕ, List, Ok, Err, IsOk, IfOk, IfErr, length, slice_get, option_map};
+ghost use Rattle.std.specs.Prelude.{◌≡◌, ◌==◌, ◌<◌, ℕ, List, Ok, Err, IsOk, IfOk, IfErr, length, slice_get, option_map};
 ghost use Rattle.cs_index.specs.Postings.{entry_of};
 ghost use Rattle.cs_tree.specs.NamesAscending.{are_ascending};
-ghost use Rattle.cs_index.specs.ValidSections.{AreValidSections, AreOpenedSections};
+ghost use Rattle.cs_index.specs.ValidSections.{AreValidSections};
 ghost use Rattle.std.specs.Option.{option_copied, option_map_or};
 ghost use Rattle.cs_index.specs.Encoding.{ListEntry};
-ghost use Rattle.cs_index.specs.Opening.{opening, read_sections, split_of};
+ghost use Rattle.cs_index.specs.Opening.{opening, read_sections};
 ghost use Rattle.cs_index.specs.Decoding.{DecodesAs};
 ghost use Rattle.cs_index.specs.Failing.{Fails};
 ghost use Rattle.cs_index.specs.OpenedParts.{ids_read};
-ghost use Rattle.cs_index.specs.SectionSlices.{borrowed_sections};
 ghost use Rattle.cs_index.specs.ValidParts.{AreValidParts};
 ghost use Rattle.cs_index.specs.StoredEntries.{entry_read};
 ghost use Rattle.cs_index.specs.StoredOpening.{with_lists};
@@ -17,21 +16,20 @@ ghost use Rattle.cs_index.specs.Order.{IsOrderOf};
 
 use crate::fault::IndexFault;
 use crate::reading::bytes::{is_closed, names_run};
-use crate::reading::entries::{ENTRY_LEN, has_entries, has_offsets};
+use crate::reading::entries::{Entry, has_entries, has_offsets};
 use crate::reading::list_reader::postings_of;
-use crate::reading::name_table::NameTable;
+use crate::reading::name_table::{NameTable, Texts};
 use crate::reading::postings::Postings;
-use crate::reading::section_slices::{SectionSlices, split};
-use crate::reading::stored_entries::{Entry, entry_with, nth_entry};
-use crate::reading::texts::Texts;
+use crate::reading::section_offsets::split;
+use crate::reading::tables::Tables;
 use std::alloc::{AllocError, Global};
 use std::marker::Model;
 
 /// An index that borrows its bytes. No method allocates, except those with an allocator.
 #[derive(Drop)]
 pub struct Index<'a> {
-    bytes: &'a [u8],
-    pub(crate) slices: SectionSlices<'a>,
+    pub(crate) bytes: &'a [u8],
+    pub(crate) tables: Tables<'a>,
 }
 
 impl<'a> Model for Index<'a> {
@@ -39,13 +37,11 @@ impl<'a> Model for Index<'a> {
 
     ghost Value = { Parts };
 
-    ghost use Rattle.cs_index.specs.Opening.{parts_of};
-    ghost use Rattle.cs_index.specs.ValidSections.{AreOpenedSections};
-    ghost use Rattle.cs_index.specs.SectionSlices.{borrowed_sections};
+    ghost use Rattle.cs_index.specs.Tables.{TablesIn, parts_with};
 
-    ghost view = { λ s. parts_of (borrowed_sections s.slices) };
+    ghost view = { λ s. parts_with s.bytes.now s.tables };
 
-    ghost invariant = { λ s. AreOpenedSections s.bytes.now (borrowed_sections s.slices) };
+    ghost invariant = { λ s. TablesIn s.bytes.now s.tables (parts_with s.bytes.now s.tables) };
 }
 
 impl<'a> Index<'a> {
@@ -67,7 +63,7 @@ impl<'a> Index<'a> {
             slices.list_index,
             room,
         ) {
-            Ok(()) => Ok(Index { bytes, slices }),
+            Ok(()) => Index::reopen(bytes),
             Err(fault) => Err(fault),
         }
     }
@@ -78,10 +74,10 @@ impl<'a> Index<'a> {
         requires opened { IsOk (opening bytes.now) }
         ensures { result ≡ opening bytes.now }
     {
-        match split(bytes) {
-            Ok(slices) => Ok(Index { bytes, slices }),
-            Err(error) => Err(error),
-        }
+        Ok(Index {
+            bytes,
+            tables: Tables::of(bytes),
+        })
     }
 
     /// The bytes that were opened.
@@ -95,14 +91,14 @@ impl<'a> Index<'a> {
     pub fn are_valid(&self)
         ensures { AreValidParts self.now }
     {
-        let _slices = &self.slices;
+        self.tables.are_valid();
     }
 
     /// The number of names.
     pub fn len(&self) -> u32
         ensures { result ≡ length self.now.names }
     {
-        self.name_table().len()
+        self.tables.name_count()
     }
 
     /// Whether there are no names.
@@ -123,7 +119,7 @@ impl<'a> Index<'a> {
     pub fn paths(&self) -> Texts<'a>
         ensures { result ≡ self.now.paths }
     {
-        Texts::new(self.slices.paths)
+        self.tables.paths()
     }
 
     /// The name with an id.
@@ -137,14 +133,14 @@ impl<'a> Index<'a> {
     pub fn name_table(&self) -> NameTable<'a>
         ensures { result ≡ self.now.names }
     {
-        NameTable::new(self.slices.names, self.slices.name_index)
+        self.tables.name_table()
     }
 
     /// The names, in the order of their ids.
     pub fn names(&self) -> Texts<'a>
         ensures { result ≡ self.now.names }
     {
-        Texts::new(self.slices.names)
+        self.tables.names()
     }
 
     /// Whether the names are strictly ascending. The clause `parts` is that of `are_valid`.
@@ -168,7 +164,7 @@ impl<'a> Index<'a> {
     pub fn lists(&self) -> u32
         ensures { result ≡ length self.now.entries }
     {
-        (self.slices.list_index.len() / ENTRY_LEN) as u32
+        self.tables.lists()
     }
 
     /// The trigram and the ids of the list at a position of the list index.
@@ -177,7 +173,7 @@ impl<'a> Index<'a> {
             option_map (λ (e : ListEntry). (e.trigram, ids_read self.now e))
             (slice_get self.now.entries position) }
     {
-        let entry = nth_entry(self.slices.list_index, position)?;
+        let entry = self.tables.entry_at(position)?;
         Some((entry.trigram, self.list_of(&entry)))
     }
 
@@ -185,7 +181,7 @@ impl<'a> Index<'a> {
     pub fn postings(&self, trigram: u32) -> Option<Postings<'a>>
         ensures { result ≡ option_map (ids_read self.now) (entry_of self.now.entries trigram) }
     {
-        let entry = entry_with(self.slices.list_index, trigram)?;
+        let entry = self.tables.find(trigram)?;
         Some(self.list_of(&entry))
     }
 
@@ -194,7 +190,7 @@ impl<'a> Index<'a> {
         ensures { result ≡
             option_map_or (λ (e : ListEntry). e.count) (entry_of self.now.entries trigram) 0 }
     {
-        match entry_with(self.slices.list_index, trigram) {
+        match self.tables.find(trigram) {
             Some(entry) => entry.count,
             None => 0,
         }
@@ -204,11 +200,13 @@ impl<'a> Index<'a> {
     fn list_of(&self, entry: &Entry) -> Postings<'a>
         ensures { result ≡ ids_read self.now (entry_read entry.now) }
     {
+        let starts = self.tables.starts();
+        let postings = &self.bytes[starts.postings..starts.name_index];
         let offset = entry.offset as usize;
-        if offset > self.slices.postings.len() {
+        if offset > postings.len() {
             return Postings::damage();
         }
-        postings_of(&self.slices.postings[offset..], entry, self.len())
+        postings_of(&postings[offset..], entry, self.tables.name_count())
     }
 }
 

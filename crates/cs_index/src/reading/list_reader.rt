@@ -8,8 +8,8 @@ ghost use Rattle.cs_index.specs.OpenedParts.{Parts};
 ghost use Rattle.cs_index.specs.StoredEntries.{entry_read};
 ghost use Rattle.cs_index.specs.Tables.{TablesIn};
 
+use crate::reading::entries::Entry;
 use crate::reading::postings::Postings;
-use crate::reading::stored_entries::Entry;
 use crate::reading::stored_list::{TRIGRAM_LEN, VARINT_LEN, is_list_of};
 use crate::reading::tables::Tables;
 use crate::reading::window::Window;

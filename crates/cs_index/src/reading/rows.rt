@@ -1,11 +1,14 @@
-// Rows: the ids of a window that match each node of a form, as a flag for each id.
-ghost use Rattle.std.specs.Prelude.{◌≡◌, ◌<◌, ◌≤◌, ◌+◌, ◌-◌, ◌⊎◌, ◌&&◌, ◌||◌, ℕ, Bool, false, true, Some, List, [], ◌∷◌, length, map, slice_index_or, IfOk, OnOk};
+// Rows: the ids of a window that match each node of a form, as a flag for each id. Windows begin at
+// the ids of the rarest list that the form requires, so that the other lists are only tested
+// between them.
+ghost use Rattle.std.specs.Prelude.{◌≡◌, ◌<◌, ◌≤◌, ◌+◌, ◌-◌, ◌⊎◌, ◌&&◌, ◌||◌, ℕ, Bool, false, true, Some, List, [], ◌∷◌, length, map, slice_index_or, IfOk, OnOk, IfSome};
 ghost use Rattle.std.specs.List.{AllByRecursion, AllZip};
 ghost use Rattle.cs_tree.specs.KeepsStore.{KeepsStore};
-ghost use Rattle.cs_index.specs.Form.{matched, members_match, node_matches};
-ghost use Rattle.cs_index.specs.Rows.{column, have_id, HaveWidth, IsLeft, IsReadOn, IsRowOf};
+ghost use Rattle.cs_index.specs.Form.{matched, members_match, node_matches, IsForm, IsRequired};
+ghost use Rattle.cs_index.specs.Rows.{column, have_id, HaveWidth, IsLeft, IsReadOn, IsRowOf, LacksId};
+ghost use Rattle.cs_trigram.specs.Trigram.{has};
 
-use crate::reading::form::FormNode;
+use crate::reading::form::{FIRST_LIST, Form, FormNode, members_of};
 use crate::reading::stored_list::StoredList;
 use cs_tree::{IoFault, Store};
 use std::alloc::{AllocError, Global};
@@ -44,6 +47,57 @@ pub(crate) fn rows_of<S: Store>(
         rows.push(row)?;
     }
     Ok(rows)
+}
+
+/// The row with a number; without one, no id matches.
+pub(crate) fn row_at(rows: &[Vec<bool>], number: usize) -> &[bool]
+    ensures row { (k : ℕ) → slice_index_or result.now k false
+        ≡ slice_index_or (column k rows.now) number false }
+    ensures width { (width : ℕ) → HaveWidth width rows.now → (length result.now ≡ 0) ⊎ (length result.now
+        ≡ width) }
+{
+    match rows.get(number) {
+        Some(row) => row,
+        None => &[],
+    }
+}
+
+/// The list of the fewest ids among those that have each id that a form matches.
+pub(crate) fn rarest_list(form: &Form, lists: &[StoredList]) -> Option<usize>
+    requires { IsForm (length lists.now) form.now.nodes.items }
+    ensures { IfSome result (IsRequired (length lists.now) form.now.nodes.items form.now.root) }
+{
+    match members_of(&form.nodes, lists.len(), true, form.root) {
+        Some(members) => rarest_of(lists, members),
+        None => rarest_of(lists, &[form.root]),
+    }
+}
+
+/// The first id of a window that the rarest list may have, or the window's end.
+pub(crate) fn next_start<S: Store>(
+    store: &mut S,
+    lists: &mut [StoredList],
+    rarest: Option<usize>,
+    window: IdWindow,
+) -> Result<u32, IoFault>
+    requires within { IfSome rarest (λ at. at < length lists.old) }
+    requires order { window.start ≤ window.end }
+    ensures from { IfOk result (λ next. window.start ≤ next) }
+    ensures to { IfOk result (λ next. next ≤ window.end) }
+    ensures lists { (bytes : List ℕ) → S.model store.old ≡ Some bytes →
+        AllByRecursion (IsLeft bytes) lists.old →
+        IfOk result (λ next. AllZip (IsReadOn bytes next) lists.old lists.new) }
+    ensures lacks { (bytes : List ℕ) → S.model store.old ≡ Some bytes →
+        AllByRecursion (IsLeft bytes) lists.old →
+        IfOk result (λ next. (id : ℕ) → window.start ≤ id → id < next →
+        LacksId (have_id bytes lists.old id) rarest) }
+    ensures store { KeepsStore S.model S.size S.failed store.old store.new result }
+{
+    let Some(at) = rarest else {
+        return Ok(window.start);
+    };
+    let next = lists[at].skip_to(store, window.start)?;
+    Ok(next.max(window.start).min(window.end))
 }
 
 /// The rows of nothing, of everything and of each list.
@@ -182,19 +236,6 @@ fn add_row(row: &mut Vec<bool>, other: &[bool]) -> Result<(), AllocError>
     Ok(())
 }
 
-/// The row with a number; without one, no id matches.
-pub(crate) fn row_at(rows: &[Vec<bool>], number: usize) -> &[bool]
-    ensures row { (k : ℕ) → slice_index_or result.now k false
-        ≡ slice_index_or (column k rows.now) number false }
-    ensures width { (width : ℕ) → HaveWidth width rows.now → (length result.now ≡ 0) ⊎ (length result.now
-        ≡ width) }
-{
-    match rows.get(number) {
-        Some(row) => row,
-        None => &[],
-    }
-}
-
 /// Keeps the flags that the other row has too.
 #[inline(never)]
 fn meet(row: &mut [bool], other: &[bool])
@@ -216,5 +257,38 @@ fn unite(row: &mut [bool], other: &[bool])
 {
     for at in 0..row.len() {
         row[at] |= other[at];
+    }
+}
+
+/// The list of the fewest ids among the numbers.
+fn rarest_of(lists: &[StoredList], numbers: &[usize]) -> Option<usize>
+    ensures { IfSome result (λ at. (at < length lists.now) × (has numbers.now (2 + at) ≡ true)) }
+{
+    let mut rarest = None;
+    for number in numbers {
+        rarest = rarer(lists, rarest, *number);
+    }
+    rarest
+}
+
+/// The list with a number if it has fewer ids than the other list; otherwise that one.
+fn rarer(lists: &[StoredList], other: Option<usize>, number: usize) -> Option<usize>
+    requires { IfSome other (λ at. at < length lists.now) }
+    ensures within { IfSome result (λ at. at < length lists.now) }
+    ensures either { IfSome result (λ at. (other ≡ Some at) ⊎ (number ≡ 2 + at)) }
+{
+    let Some(at) = number.checked_sub(FIRST_LIST) else {
+        return other;
+    };
+    if at >= lists.len() {
+        return other;
+    }
+    let Some(before) = other else {
+        return Some(at);
+    };
+    if lists[before].len() <= lists[at].len() {
+        other
+    } else {
+        Some(at)
     }
 }

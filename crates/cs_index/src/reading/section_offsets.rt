@@ -1,10 +1,11 @@
-// The offsets of the sections of a stored index.
-ghost use Rattle.std.specs.Prelude.{◌≡◌, ◌+◌, ◌-◌, ◌≤◌, ◌<◌, ◌^◌, List, ℕ, length, IfOk, IfErr, IfSome, Err, IsTrue};
+// The sections of an index: their offsets in a store, and slices of the bytes in memory.
+ghost use Rattle.std.specs.Prelude.{◌≡◌, ◌+◌, ◌-◌, ◌≤◌, ◌<◌, ◌^◌, List, ℕ, length, IfOk, IfErr, IfSome, Err, IsTrue, Ok, MatchResult};
 ghost use Rattle.cs_tree.specs.KeepsStore.{KeepsStore};
 ghost use Rattle.cs_tree.specs.ByteList.{AreBytes};
 ghost use Rattle.cs_tree.specs.Store.{part_of};
-ghost use Rattle.cs_index.specs.Opening.{are_section_offsets};
+ghost use Rattle.cs_index.specs.Opening.{are_section_offsets, split_of};
 ghost use Rattle.cs_index.specs.StoredOpening.{AreDisorderedOffsets, AreTrailerOffsets, AreAscendingOffsets, IsSplitAt, is_tail};
+ghost use Rattle.cs_index.specs.SectionSlices.{AreSlicesOf, borrowed_sections};
 
 use crate::fault::IndexFault;
 use crate::format::{MAGIC, TRAILER_LEN, TRAILER_MAGIC};
@@ -23,6 +24,17 @@ pub(crate) struct SectionOffsets {
     pub(crate) trailer: usize,
 }
 
+/// The sections of an index, borrowed from its bytes, and their offsets.
+#[derive(Drop)]
+pub(crate) struct SectionSlices<'a> {
+    pub(crate) paths: &'a [u8],
+    pub(crate) names: &'a [u8],
+    pub(crate) postings: &'a [u8],
+    pub(crate) name_index: &'a [u8],
+    pub(crate) list_index: &'a [u8],
+    pub(crate) starts: SectionOffsets,
+}
+
 /// Reads the section offsets from the first 16 and the last 36 bytes.
 pub(crate) fn find_offsets<S: Store>(
     alloc: Global,
@@ -39,12 +51,33 @@ pub(crate) fn find_offsets<S: Store>(
     Ok(offsets_of(&header, &tail, len))
 }
 
+/// Splits the bytes of an index into its sections.
+pub(crate) fn split<'a>(bytes: &'a [u8]) -> Result<SectionSlices<'a>, IndexFault>
+    ensures value { MatchResult result
+        (λ slices. split_of bytes.now ≡ Ok (borrowed_sections slices)) (λ fault. split_of bytes.now
+        ≡ Err fault) }
+    ensures at { IfOk result (AreSlicesOf bytes.now) }
+    ensures names_bound { IfOk result (λ slices. length slices.name_index.now < 2 ^ 32) }
+    ensures lists_bound { IfOk result (λ slices. length slices.list_index.now < 2 ^ 32) }
+{
+    let len = bytes.len();
+    let header = &bytes[..len.min(MAGIC.len())];
+    let tail = &bytes[len.saturating_sub(TRAILER_LEN)..];
+    match offsets_of(header, tail, len) {
+        Ok(starts) => Ok(SectionSlices {
+            paths: &bytes[starts.paths..starts.names],
+            names: &bytes[starts.names..starts.postings],
+            postings: &bytes[starts.postings..starts.name_index],
+            name_index: &bytes[starts.name_index..starts.list_index],
+            list_index: &bytes[starts.list_index..starts.trailer],
+            starts,
+        }),
+        Err(fault) => Err(fault),
+    }
+}
+
 /// The section offsets of an index of `len` bytes, by its first and last bytes.
-pub(crate) fn offsets_of(
-    header: &[u8],
-    tail: &[u8],
-    len: usize,
-) -> Result<SectionOffsets, IndexFault>
+fn offsets_of(header: &[u8], tail: &[u8], len: usize) -> Result<SectionOffsets, IndexFault>
     ensures slices { (bytes : List ℕ) → length bytes ≡ len → header.now ≡ part_of bytes 0 16 →
         tail.now ≡ part_of bytes (len - TRAILER_LEN) TRAILER_LEN → IsSplitAt bytes result }
     ensures order { IfOk result AreAscendingOffsets }

@@ -11,9 +11,9 @@ ghost use Rattle.cs_index.specs.NameReading.{ReadsNames};
 
 use crate::fault::IndexFault;
 use crate::reading::name_reader::NameReader;
+use crate::reading::name_table::Texts;
 use crate::reading::section_offsets::{SectionOffsets, find_offsets};
 use crate::reading::stored_sections::{has_stored_entries, read_paths, test_names};
-use crate::reading::texts::Texts;
 use cs_tree::{IoFault, Store};
 use std::alloc::Global;
 use std::marker::Model;

@@ -11,8 +11,8 @@ ghost use Rattle.cs_index.specs.Rows.{RowSoFar};
 ghost use Rattle.cs_index.specs.StoredLists.{GivesBelow, Holds, IsReady, SkipsBelow, IsSection, ids_left, with_piece};
 
 use crate::encoded_run::{extent, marked_extent};
-use crate::reading::list_decoder::{ListDecoder, Step};
-use crate::reading::stored_entries::Entry;
+use crate::reading::entries::Entry;
+use crate::reading::postings::{ListDecoder, Step};
 use crate::reading::window::Window;
 use cs_tree::{IoFault, Store};
 use std::alloc::Global;

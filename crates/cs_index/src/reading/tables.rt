@@ -3,18 +3,16 @@ ghost use Rattle.std.specs.Prelude.{◌≡◌, ◌≤◌, ◌<◌, ◌+◌, ◌-
 ghost use Rattle.cs_index.specs.AscendingIds.{max_ids};
 ghost use Rattle.cs_index.specs.Encoding.{ListEntry};
 ghost use Rattle.cs_index.specs.OpenedParts.{Parts};
+ghost use Rattle.cs_index.specs.Postings.{entry_of};
 ghost use Rattle.cs_index.specs.Opening.{opening};
 ghost use Rattle.cs_index.specs.StoredEntries.{entry_read};
 ghost use Rattle.cs_index.specs.StoredOpening.{AreAscendingOffsets};
 ghost use Rattle.cs_index.specs.Tables.{AreValidTables, TablesIn, lists_room};
 ghost use Rattle.cs_index.specs.ValidParts.{AreValidParts};
 
-use crate::reading::entries::ENTRY_LEN;
-use crate::reading::name_table::NameTable;
-use crate::reading::section_offsets::SectionOffsets;
-use crate::reading::section_slices::split;
-use crate::reading::stored_entries::{Entry, nth_entry};
-use crate::reading::texts::Texts;
+use crate::reading::entries::{ENTRY_LEN, Entry, entry_with, nth_entry};
+use crate::reading::name_table::{NameTable, Texts};
+use crate::reading::section_offsets::{SectionOffsets, split};
 use std::marker::Model;
 
 /// The paths, the names and both tables of an index, borrowed from an `Index` or an `OldIndex`.
@@ -116,6 +114,14 @@ impl<'a> Tables<'a> {
     {
         self.are_valid();
         nth_entry(self.list_index, position)
+    }
+
+    /// The entry of a trigram.
+    pub(crate) fn find(&self, trigram: u32) -> Option<Entry>
+        ensures { option_map entry_read result ≡ entry_of self.now.entries trigram }
+    {
+        self.are_valid();
+        entry_with(self.list_index, trigram)
     }
 
     /// The number of names.

@@ -4,8 +4,8 @@ ghost use Rattle.cs_trigram.specs.Trigram.{set_of_numbers};
 ghost use Rattle.cs_trigram.specs.Scans.{AreDistinctTrigrams};
 ghost use Rattle.cs_index.specs.Encoding.{encoding, encoding_of, names_of};
 ghost use Rattle.cs_index.specs.Indexable.{IsIndexable};
-ghost use Rattle.cs_index.specs.LeastLength.{least_length, IsAlwaysLonger};
-ghost use Rattle.cs_index.specs.Built.{with_entry, are_paths, file_map, is_above, is_storable, IsBuilt, IsFull, IsOutOfOrder, path_set};
+ghost use Rattle.cs_index.specs.LeastLength.{least_length};
+ghost use Rattle.cs_index.specs.Built.{with_entry, IsAlwaysLonger, are_paths, file_map, is_above, is_storable, IsBuilt, IsFull, IsOutOfOrder, path_set};
 ghost use Rattle.cs_index.specs.MaxNames.{max_names};
 
 use crate::fault::BuildFault;

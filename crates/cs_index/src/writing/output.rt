@@ -29,6 +29,9 @@ impl Model for WrittenList {
     ghost view = { λ l. record { trigram = l.trigram; count = l.count; offset = l.start } };
 }
 
+/// So much memory is kept for bytes that are not sent yet.
+const KEPT_LEN: usize = 1 << 18;
+
 /// The maximum number of bytes that are sent, so that no sum of offsets wraps.
 const MAX_SENT: usize = 1 << 62;
 
@@ -126,6 +129,8 @@ impl SendBuffer {
         self.sent.push(&self.bytes);
         self.sent_len = sent_len;
         self.bytes.clear();
+        // The paths and names before the lists may be long.
+        self.bytes.shrink_to(KEPT_LEN);
         Ok(())
     }
 

@@ -4,7 +4,7 @@ use Rattle.cs_tree.specs.Store.{part_of}
 use Rattle.cs_index.specs.PostingLists.{read_list}
 use Rattle.cs_index.specs.StoredEntries.{entry_read}
 use Rattle.cs_index.specs.StoredLists.{Holds, ids_left}
-use Rattle.cs_index.specs.declared.reading.stored_entries.Entry.{Entry}
+use Rattle.cs_index.specs.declared.reading.entries.Entry.{Entry}
 use Rattle.cs_index.proofs.reading.candidates.lists_of.Given as goal
 
 abbrev pub invariant-loop-entry : goal.invariant-loop-entry

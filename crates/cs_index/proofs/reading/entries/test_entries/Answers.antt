@@ -1,69 +1,79 @@
-use Rattle.std.proofs.Common.{rules, ◌≡◌, ◌≤◌, ◌<◌, ◌⊎◌, ◌+◌, ◌-◌, ◌/◌, ◌∙◌, ◌&&◌, ◌∷◌, ◌++◌, ap, sym, true, false, leb, inl, inr, ℕ, Bool, List, length, arith}
-use Rattle.std.proofs.Math.Bool.{and-false}
-use Rattle.std.proofs.lemmas.Bool.{lt-leb}
-use Rattle.cs_index.specs.Encoding.{ListEntry}
-use Rattle.cs_index.specs.Opening.{entries_from, entry_at, trigram_at}
+use Rattle.std.proofs.Common.{rules, ◌≡◌, ◌<◌, ◌+◌, ◌*◌, ◌-◌, ◌/◌, ◌∙◌, ◌++◌, List, length, ℕ, suc, ap, inl, inr, arith}
+use Rattle.std.proofs.lemmas.Bool.{cases_lt, false_from_ne_true}
+use Rattle.cs_index.specs.Opening.{entries_from, entries_in, trigram_at}
 use Rattle.cs_index.specs.SectionPieces.{are_entries}
-use Rattle.cs_index.proofs.decoding.EntryTables.{in_from, no_entry, one_entry}
-use Rattle.cs_index.proofs.stored.EntryPieces.{entry_follows, is_closed, is_last_closed, last_lower}
+use Rattle.cs_index.proofs.stored.EntryPieces.{all_fit, each_fits, greatest_counts, nth}
 use Rattle.cs_index.proofs.reading.entries.test_entries.Goals as goal
+use Rattle.cs_index.proofs.reading.entries.test_entries.Goals.{then-disorder-ne0-via-then-disorder-ne0, then-disorder-ne0-via-else-disorder-ne0+then-largest-room}
 
-pub entries-init : goal.entries-init
-entries-init c = record {
-  within = omega arith;
-  last = λ low. absurd (omega (arith, low));
-  left =
-      λ more. ap (λ (es : List ListEntry). are_entries c.args.room c.args.least (es ++ more))
-      (in_from c.args.entries.now);
-}
+pub returns-then-count-eq0-clause-some : goal.returns-then-count-eq0-clause-some
+unfolding entries_in
+returns-then-count-eq0-clause-some c = λ more.
+    ap (λ n. are_entries c.args.room c.args.least (entries_from c.args.entries.now 0 n ++ more)) c.if-count-eq0.true
 
--- the first of the remaining entries
-first_of : (bytes : List ℕ) (at : ℕ) (more : List ListEntry) → 11 ≤ length bytes - at →
-    entries_from bytes at ((length bytes - at) / 11) ++ more ≡ entry_at bytes at
-    ∷ (entries_from bytes (at + 11) ((length bytes - (at + 11)) / 11) ++ more)
-first_of bytes at more h = ap (λ n. entries_from bytes at n ++ more) (one_entry (length bytes) at h)
-
-refused : (closed : Bool) (room next : ℕ) (e : ListEntry) (es : List ListEntry) →
-    (e.trigram < next) ⊎ (leb (e.offset + 4) room ≡ false) → (closed && are_entries room next (e ∷ es)) ≡ false
-refused closed room next e es (inl low) =
-    ap (λ b. closed && (b && ((leb (e.offset + 4) room && is_closed e) && are_entries room (e.trigram + 1) es))) (lt-leb next e.trigram low)
-    ∙ and-false closed
-refused closed room next e es (inr unfit) =
-    ap (λ b. closed && (leb next e.trigram && ((b && is_closed e) && are_entries room (e.trigram + 1) es))) unfit
-    ∙ ap (λ b. closed && b) (and-false (leb next e.trigram)) ∙ and-false closed
-
-pub returns-then-trigram-next-clause-none : goal.returns-then-trigram-next-clause-none
-returns-then-trigram-next-clause-none c =
+pub loop-at-preserved : goal.loop-at-preserved
+loop-at-preserved c =
     let bytes : List ℕ = c.args.entries.now in
-    let at : ℕ = c.entries.at in
-    let bad : (trigram_at bytes at < c.entries.next) ⊎ (leb ((entry_at bytes at).offset + 4) c.args.room ≡ false) = search rules in
-    λ more. c.entries.invariant.left more
-    ∙ ap (λ (es : List ListEntry). is_last_closed bytes at && are_entries c.args.room c.entries.next es) (first_of bytes at more (omega arith))
-    ∙ refused (is_last_closed bytes at) c.args.room c.entries.next (entry_at bytes at)
-    (entries_from bytes (at + 11) ((length bytes - (at + 11)) / 11) ++ more) bad
-
-pub entries-preserved : goal.entries-preserved
-entries-preserved c =
-    let bytes : List ℕ = c.args.entries.now in
-    let at : ℕ = c.entries.at in
-    let high : c.entries.next ≤ trigram_at bytes at = search rules in
-    let fits : leb ((entry_at bytes at).offset + 4) c.args.room ≡ true = search rules in
-    let same : c.entry_trigram-trigram.result + 1 ≡ trigram_at bytes at + 1 = omega (arith, c.entry_trigram-trigram.ensures.value) in
-    let here : at + 11 - 11 ≡ at = omega arith in
-    let closed : is_last_closed bytes at ≡ true = last_lower bytes at (λ low.
-    let last = c.entries.invariant.last low in
-    omega (arith, last.1, high, c.entry_trigram-trigram.ensures.value, c.entry_trigram-trigram.ensures.bound)) in
+    let at : ℕ = c.loop-at.at in
+    let i = c.loop-at.invariant in
+    let before : at ≡ suc (at - 1) = search rules in
     record {
-      within = omega arith;
-      last = λ low. (omega arith, same ∙ ap (λ n. trigram_at bytes n + 1) (sym here));
-      left = λ more. c.entries.invariant.left more
-          ∙ ap (λ (es : List ListEntry). is_last_closed bytes at && are_entries c.args.room c.entries.next es) (first_of bytes at more (omega arith))
-          ∙ entry_follows c.args.room c.entries.next bytes at
-          (entries_from bytes (at + 11) ((length bytes - (at + 11)) / 11) ++ more) closed high fits
-          ∙ ap (λ n. is_last_closed bytes (at + 11) && are_entries c.args.room n (entries_from bytes (at + 11) ((length bytes - (at + 11)) / 11) ++ more)) (sym same);
+      rise = λ zero k l. elim (cases_lt (suc k) at) [
+        | inl before ↦ i.rise (search rules) k before
+        | inr from ↦ search rules
+      ];
+      fall = λ all.
+          let old : c.loop-at.disorder ≡ 0 = i.fall (λ k l. all k (omega (arith, l))) in
+          let up = all (at - 1) (omega (arith, before)) in
+          let here = ap (λ k. trigram_at bytes (11 * k)) before in
+          let above : trigram_at bytes (11 * (at - 1)) < trigram_at bytes (11 * at) = omega (arith, up, here) in
+          search rules;
+      fit = search rules;
+      most = λ bound all.
+          let old = i.most bound (λ k l. all k (omega (arith, l))) in
+          let here = all at (omega arith) in
+          search rules;
     }
 
--- all entries are tested
-all_tested : (room next : ℕ) (bytes : List ℕ) (at : ℕ) (more : List ListEntry) → length bytes - at < 11 →
-    are_entries room next (entries_from bytes at ((length bytes - at) / 11) ++ more) ≡ are_entries room next more
-all_tested room next bytes at more few = ap (λ n. are_entries room next (entries_from bytes at n ++ more)) (no_entry (length bytes) at few)
+pub returns-then-entry_trigram-least-clause-none : goal.returns-then-entry_trigram-least-clause-none
+unfolding entries_in
+returns-then-entry_trigram-least-clause-none c = λ more. false_from_ne_true _ (λ all.
+    let count : ℕ = length c.args.entries.now / 11 in
+    let first = (each_fits c.args.entries.now c.args.room count more count 0 c.args.least (omega arith) all).0 (omega arith) in
+    omega (arith, first, c.entry_trigram.ensures.value, c.if-entry_trigram-least.true))
+
+pub returns-then-disorder-ne0-clause-none : goal.returns-then-disorder-ne0-clause-none
+unfolding entries_in
+returns-then-disorder-ne0-clause-none c = λ more. false_from_ne_true _ (λ all.
+    let count : ℕ = length c.args.entries.now / 11 in
+    let i = c.loop-at.invariant in
+    let end : c.loop-at.at ≡ count = search rules in
+    let each = (each_fits c.args.entries.now c.args.room count more count 0 c.args.least (omega arith) all).1 in
+    elim c.then-disorder-ne0.branch [
+      | then-disorder-ne0-via-then-disorder-ne0 w ↦
+          w.if-disorder-ne0.true (i.fall (λ k l. (each k (omega arith) (omega (arith, l, end))).next (omega (arith, l, end))))
+      | then-disorder-ne0-via-else-disorder-ne0+then-largest-room w ↦
+          let most = i.most (c.args.room - 4) (λ k l. let fits = (each k (omega arith) (omega (arith, l, end))).fits in omega (arith, fits)) in
+          let one = (each 0 (omega arith) (omega arith)).fits in
+          omega (arith, most, one, w.if-largest-room.true)
+    ])
+
+pub returns-then-read_number-ne0-clause-none : goal.returns-then-read_number-ne0-clause-none
+unfolding entries_in
+returns-then-read_number-ne0-clause-none c = λ more. false_from_ne_true _ (λ all.
+    let count : ℕ = length c.args.entries.now / 11 in
+    let each = (each_fits c.args.entries.now c.args.room count more count 0 c.args.least (omega arith) all).1 in
+    greatest_counts (nth c.args.entries.now (count - 1)) (search rules) (search rules) (each (count - 1) (omega arith) (omega arith)).closed)
+
+pub returns-clause-some : goal.returns-clause-some
+unfolding entries_in
+returns-clause-some c = λ more.
+    let bytes : List ℕ = c.args.entries.now in
+    let last : ℕ = length bytes / 11 - 1 in
+    let i = c.loop-at.invariant in
+    let end : c.loop-at.at ≡ suc last = search rules in
+    ap (λ n. are_entries c.args.room c.args.least (entries_from bytes 0 n ++ more)) (let z : length bytes / 11 ≡ suc last = omega arith in z)
+    ∙ all_fit bytes c.args.room last more (λ k l. i.rise (search rules) k (omega (arith, l, end)))
+    (λ k l. let fits = i.fit k (omega (arith, l, end)) in omega (arith, fits, c.if-largest-room.false))
+    (search rules) (search rules) last 0 c.args.least (omega arith) (search rules)
+    ∙ ap (λ n. are_entries c.args.room (n + 1) more) (search rules)

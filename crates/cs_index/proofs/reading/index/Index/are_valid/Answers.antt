@@ -1,8 +1,6 @@
 use Rattle.std.proofs.Common.{subst}
 use Rattle.cs_index.specs.ValidParts.{AreValidParts}
-use Rattle.cs_index.specs.SectionSlices.{borrowed_sections}
-use Rattle.cs_index.proofs.decoding.PartsAreValid.{parts_read}
 use Rattle.cs_index.proofs.reading.index.Index.are_valid.Goals as goal
 
 pub returns : goal.returns
-returns c = subst AreValidParts c.self.view_is (parts_read (borrowed_sections c.self.inside.slices) c.self.invariant)
+returns c = subst AreValidParts c.self.view_is (c.are_valid.ensures.parts c.self.inside.bytes.now _ c.self.invariant)

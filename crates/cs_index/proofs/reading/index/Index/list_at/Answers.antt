@@ -8,4 +8,4 @@ pub returns : goal.returns
 returns c =
     ap (λ r. Some (c.in_ok-entry.entry.trigram, r)) c.list_of.ensures
     ∙ ap (option_map (λ (e : ListEntry). (e.trigram, ids_read c.args.self.now e)))
-    (c.in_ok-entry.ensures ∙ ap (λ (p : Parts). slice_get p.entries c.args.position) c.self.view_is)
+    (c.in_ok-entry.ensures.entry ∙ ap (λ (p : Parts). slice_get p.entries c.args.position) c.self.view_is)

@@ -1,13 +1,8 @@
-use Rattle.std.proofs.Common.{◌∙◌, ap, length, Some}
+use Rattle.std.proofs.Common.{◌∙◌, ap, Some}
 use Rattle.std.specs.Prelude.{option_map}
 use Rattle.cs_index.specs.OpenedParts.{Parts, ids_read}
 use Rattle.cs_index.specs.Postings.{entry_of}
-use Rattle.cs_index.proofs.decoding.IndexFields.{entries_rise}
 use Rattle.cs_index.proofs.reading.index.Index.postings.Goals as goal
-
-pub entry_with-requires : goal.entry_with-requires
-entry_with-requires c =
-    entries_rise (length c.self.inside.slices.postings.now) c.self.inside.slices.list_index.now c.self.invariant.read.entries
 
 pub returns : goal.returns
 returns c =

@@ -1,23 +1,15 @@
-use Rattle.std.proofs.Common.{IsOk, ap, sym, subst, ◌∙◌}
-use Rattle.cs_index.specs.SectionSlices.{borrowed_sections}
-use Rattle.cs_index.specs.Opening.{opening}
-use Rattle.cs_index.specs.ValidSections.{read_split}
-use Rattle.cs_index.proofs.decoding.ReopenedSections.{opened_sections}
+use Rattle.std.proofs.Common.{◌∙◌, ap, sym, subst, Ok}
+use Rattle.cs_index.specs.Tables.{TablesIn}
+use Rattle.cs_index.proofs.stored.TableSections.{is_opened, parts_are}
 use Rattle.cs_index.proofs.reading.index.Index.reopen.Goals as goal
 
 pub invariant_of-result : goal.invariant_of-result
-unfolding opening
-invariant_of-result c = (opened_sections c.args.bytes.now (borrowed_sections c.in-Ok.slices) c.in-Ok.ensures.value
-    (subst (λ r. IsOk (read_split r)) c.in-Ok.ensures.value c.requires.opened) c.in-Ok.ensures.names_bound
-    c.in-Ok.ensures.lists_bound).0
+invariant_of-result c =
+    let opened = is_opened c.args.bytes.now c.requires.opened in
+    let is = c.of.ensures opened.0 opened.1 in
+    subst (TablesIn c.args.bytes.now c.of.result) (sym (parts_are c.args.bytes.now c.of.result opened.0 is)) is
 
-pub returns-in-Ok : goal.returns-in-Ok
-unfolding opening
-returns-in-Ok c = sym (ap read_split c.in-Ok.ensures.value
-    ∙ (opened_sections c.args.bytes.now (borrowed_sections c.in-Ok.slices) c.in-Ok.ensures.value
-    (subst (λ r. IsOk (read_split r)) c.in-Ok.ensures.value c.requires.opened) c.in-Ok.ensures.names_bound
-    c.in-Ok.ensures.lists_bound).1)
-
-pub returns-in-Err : goal.returns-in-Err
-unfolding opening
-returns-in-Err c = sym (ap read_split c.in-Err.ensures.value)
+pub returns : goal.returns
+returns c =
+    let opened = is_opened c.args.bytes.now c.requires.opened in
+    ap Ok (parts_are c.args.bytes.now c.of.result opened.0 (c.of.ensures opened.0 opened.1)) ∙ sym opened.1

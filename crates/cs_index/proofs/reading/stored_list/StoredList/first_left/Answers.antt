@@ -1,4 +1,4 @@
-use Rattle.cs_index.specs.declared.reading.list_decoder.Step.TheVariants.{Id, End}
+use Rattle.cs_index.specs.declared.reading.postings.Step.TheVariants.{Id, End}
 use Rattle.cs_index.proofs.stored.ListPieces.{begins_end, begins_ended, begins_next, step_there}
 use Rattle.cs_index.proofs.reading.stored_list.StoredList.first_left.Goals as goal
 

@@ -1,4 +1,4 @@
-use Rattle.cs_index.specs.declared.reading.list_decoder.Step.TheVariants.{Id, End}
+use Rattle.cs_index.specs.declared.reading.postings.Step.TheVariants.{Id, End}
 use Rattle.cs_index.proofs.stored.ListPieces.{ends, stays, step_there, takes}
 use Rattle.cs_index.proofs.reading.stored_list.StoredList.take_below.Goals as goal
 

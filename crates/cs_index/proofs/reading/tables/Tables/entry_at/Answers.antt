@@ -2,7 +2,7 @@ use Rattle.std.proofs.Common.{◌≡◌, ◌≤◌, ◌+◌, ◌∙◌, ap, sym,
 use Rattle.std.specs.Prelude.{option_map, IfSome}
 use Rattle.cs_index.specs.StoredEntries.{entry_read}
 use Rattle.cs_index.specs.Tables.{AreValidTables, TableParts, lists_room}
-use Rattle.cs_index.specs.declared.reading.stored_entries.Entry.{Entry}
+use Rattle.cs_index.specs.declared.reading.entries.Entry.{Entry}
 use Rattle.cs_index.proofs.stored.TableSections.{fits_at}
 use Rattle.cs_index.proofs.reading.tables.Tables.entry_at.Goals as goal
 

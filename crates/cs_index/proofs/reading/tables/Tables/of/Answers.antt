@@ -1,4 +1,4 @@
-use Rattle.std.proofs.Common.{◌≡◌, Result, Ok, Err, IsOk, arith, subst, true, false}
+use Rattle.std.proofs.Common.{◌≡◌, IsOk, arith, subst, true, false}
 use Rattle.cs_index.proofs.stored.SectionReads.{bytes_fit, not_opened}
 use Rattle.cs_index.proofs.stored.TableSections.{is_opened, slices_bounded, slices_stand}
 use Rattle.cs_index.proofs.reading.tables.Tables.of.Goals as goal

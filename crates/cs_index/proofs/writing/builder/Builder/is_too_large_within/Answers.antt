@@ -1,7 +1,7 @@
 use Rattle.std.proofs.Common.{◌-◌, ◌^◌, ◌∙◌, ap, min, subst}
 use Rattle.std.proofs.lemmas.Bool.{ltb-true}
-use Rattle.cs_index.specs.Built.{Built}
-use Rattle.cs_index.specs.LeastLength.{least_length, IsAlwaysLonger}
+use Rattle.cs_index.specs.Built.{Built, IsAlwaysLonger}
+use Rattle.cs_index.specs.LeastLength.{least_length}
 use Rattle.cs_index.proofs.writer.LeastLength.{always_longer, same_test}
 use Rattle.cs_index.proofs.writing.builder.Builder.is_too_large_within.Goals as goal
 

@@ -6,7 +6,7 @@ use Rattle.std.proofs.lemmas.Bool.{cases_lt, le-leb, lt-leb}
 use Rattle.std.proofs.lemmas.List.{get_or_past, get_or_append_left, get_or-append_right, get_or-replicate, length-replicate, get_or-drop}
 use Rattle.std.specs.Prelude.{if◌then◌else◌}
 use Rattle.cs_syntax.specs.Matching.{alt}
-use Rattle.cs_match.specs.declared.look_around.LookAround.{LookAround}
+use Rattle.cs_match.specs.declared.state.LookAround.{LookAround}
 use Rattle.cs_match.specs.Glushkov.{position_count, position_count_of, repeats_of, nullable_some, is_final, is_final_some, accepts, loop_ends_of}
 use Rattle.cs_match.specs.Entered.{entered, entered_each, AreShifted}
 use Rattle.cs_match.specs.Parts.{run, runs}

@@ -14,8 +14,8 @@ use Rattle.cs_syntax.specs.declared.char_step.CharStep.TheVariants.{Single}
 use Rattle.cs_match.specs.declared.byte_classes.ByteClasses.{ByteClasses}
 use Rattle.cs_match.specs.declared.position.Input.{Input}
 use Rattle.cs_match.specs.declared.state.State.{State}
-use Rattle.cs_match.specs.declared.look_around.LookAround.{LookAround}
-use Rattle.cs_match.specs.declared.look_around.LookBehind.{LookBehind}
+use Rattle.cs_match.specs.declared.state.LookAround.{LookAround}
+use Rattle.cs_match.specs.declared.state.LookBehind.{LookBehind}
 use Rattle.cs_match.specs.LookBehind.{look_behind}
 use Rattle.cs_match.specs.ByteClasses.{AreAlike, AreTogether, AreClasses, AreNumbered, StepAlike, HaveBoth, AllHaveBoth, AddsMarks, begins_at}
 use Rattle.cs_match.specs.Glushkov.{position_count, is_final, accepts, step, step_all, step_each, cuts_of}
@@ -58,17 +58,17 @@ mutual
       rw (step_both t b c h.0 e enter (take (position_count t) ms) a, step_each_both ts b c h.1 e enter (drop (position_count t) ms) a) refl
 
 -- bytes that step alike; a byte below 128 is a character
-same_step : (t : Tree) (state : State) (b c : ℕ) → b < c → IsBlock (cuts_of t) state.unfinished →
+same_step : (t : Tree) (state : State) (b c : ℕ) → b < c → IsBlock (cuts_of t) state.behind.unfinished →
     ((look_behind t).char ≡ true → StepAlike (cuts_of t) b c) → SameStep (input t state b) (input t state c)
 same_step t state b c lt is step = by (look_behind t).char refl
   where
-    alike : (look_behind t).char ≡ true → (c < 128) ⊎ (char_step (cuts_of t) state.unfinished b ≡ char_step (cuts_of t) state.unfinished c) →
+    alike : (look_behind t).char ≡ true → (c < 128) ⊎ (char_step (cuts_of t) state.behind.unfinished b ≡ char_step (cuts_of t) state.behind.unfinished c) →
         SameStep (input t state b) (input t state c)
     alike e (inr same) = inl (rw e same)
     alike e (inl low) = inr (rw (e, lt-ltb b 128 (omega arith)) refl, rw (e, lt-ltb c 128 low) refl)
 
     by : (x : Bool) → (look_behind t).char ≡ x → SameStep (input t state b) (input t state c)
-    by true e = alike e (step e state.unfinished is)
+    by true e = alike e (step e state.behind.unfinished is)
     by false e = inl (rw e refl)
 
 same_unfinished : (b c : Input) → SameStep b c → unfinished_after b.char ≡ unfinished_after c.char
@@ -80,7 +80,7 @@ abbrev AreNeighbours : Tree → ℕ → ℕ → Type 0
 AreNeighbours t b c = AreTogether t b c × ((look_behind t).char ≡ true → StepAlike (cuts_of t) b c)
 
 -- they are alike
-next_alike : (t : Tree) (state : State) (b : ℕ) → IsBlock (cuts_of t) state.unfinished → AreNeighbours t b (suc b) → AreAlike t state b (suc b)
+next_alike : (t : Tree) (state : State) (b : ℕ) → IsBlock (cuts_of t) state.behind.unfinished → AreNeighbours t b (suc b) → AreAlike t state b (suc b)
 next_alike t state b is h =
     let both = h.0 in
     let same = same_step t state b (suc b) (omega arith) is h.1 in
@@ -101,7 +101,7 @@ alike_back t state b c p = record { newline = sym p.newline; successor = sym p.s
 -- from marks to classes
 module _ (t : Tree) (begins : List ℕ) (classes : ByteClasses) (numbered : AreNumbered begins classes)
     (marked : (b : ℕ) → suc b < 256 → begins_at begins (suc b) ≡ false → AreNeighbours t b (suc b)) where
-  module _ (state : State) (is : IsBlock (cuts_of t) state.unfinished) where
+  module _ (state : State) (is : IsBlock (cuts_of t) state.behind.unfinished) where
     alike_up : (b n : ℕ) → b + n < 256 → ((k : ℕ) → b < k → k ≤ b + n → begins_at begins k ≡ false) → AreAlike t state b (b + n)
     alike_up b zero lt clear = subst (AreAlike t state b) (omega arith) (record { newline = refl; successor = refl; accepts = refl })
     alike_up b (suc n) lt clear =

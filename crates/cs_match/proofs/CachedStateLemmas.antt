@@ -1,12 +1,15 @@
 -- Cached states in flat vectors: one is read, one is added, and all but the first are forgotten.
-use Rattle.std.proofs.Common.{◌≡◌, ℕ, zero, suc, ◌+◌, ◌*◌, ◌<◌, ◌≤◌, List, [], ◌∷◌, ◌++◌, take, drop, length, get_or, refl, ◌∙◌, ap, subst, arith, length-take, length-drop}
+use Rattle.std.proofs.Common.{◌≡◌, Bool, ℕ, zero, suc, ◌+◌, ◌*◌, ◌<◌, ◌≤◌, List, [], ◌∷◌, ◌++◌, take, drop, length, get_or, refl, ◌∙◌, ap, subst, arith, length-take, length-drop}
 use Rattle.std.proofs.lemmas.List.{drop-drop, drop-take, take-take, take-append-le, drop-append-le, take_all, drop_all}
-use Rattle.cs_match.specs.declared.cached_states.Behind.{Behind}
+use Rattle.cs_match.specs.declared.state.Behind.{Behind}
 use Rattle.cs_match.specs.declared.state.State.{State}
-use Rattle.cs_match.specs.CachedStates.{with_positions, states_of, AreSets}
+use Rattle.cs_match.specs.CachedStates.{states_of, AreSets}
 use Rattle.cs_match.specs.PositionSet.{positions_of, IsPositionSet}
 use Rattle.cs_match.specs.Work.{words}
 use Rattle.cs_match.proofs.PositionCountLemmas.{scaled}
+
+abbrev pub with_positions : List Bool → Behind → State
+with_positions positions behind = record { positions = positions; behind = behind }
 
 pub length-states_of : (count : ℕ) (sets : List ℕ) (behinds : List Behind) → length (states_of count sets behinds) ≡ length behinds
 unfolding states_of

@@ -5,7 +5,7 @@ use Rattle.cs_syntax.specs.Cuts.{AreCutsOf}
 use Rattle.cs_syntax.specs.CharSteps.{char_step}
 use Rattle.cs_syntax.specs.declared.char_step.Unfinished.{Unfinished}
 use Rattle.cs_syntax.proofs.CharStepLemmas.{char_step_members}
-use Rattle.cs_match.specs.declared.look_around.LookBehind.{LookBehind}
+use Rattle.cs_match.specs.declared.state.LookBehind.{LookBehind}
 use Rattle.cs_match.specs.Glushkov.{cuts_of, char_step_of}
 use Rattle.cs_match.specs.LookBehind.{look_behind}
 

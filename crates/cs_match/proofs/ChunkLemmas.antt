@@ -1,6 +1,7 @@
 -- Chunks, and the lists of the lanes made one.
 use Rattle.std.proofs.Common.{◌≡◌, ◌≢◌, inl, inr, ℕ, zero, suc, ◌+◌, ◌-◌, ◌*◌, ◌/◌, ◌<◌, ◌≤◌, Bool, true, false, cond, nat_eq, List, [], ◌∷◌, ◌++◌, length, take, drop, get_or, refl, sym, ap, ap₂, subst, ◌∙◌, arith, length-take, length-drop, length-append, drop-drop, take-take}
-use Rattle.std.proofs.Math.Seq.{take-append_seam, drop-append_seam, take-append-add, drop-append-add}
+use Rattle.std.proofs.Math.Seq.{paste, take-append_seam, drop-append_seam, take-append-add, drop-append-add}
+use Rattle.std.proofs.lemmas.List.Edits.{take-paste, drop-paste}
 use Rattle.std.proofs.lemmas.Bool.{cases_eq, cases_lt}
 use Rattle.std.proofs.lemmas.List.{take-append-le, drop-take}
 use Rattle.std.specs.List.{count_by}
@@ -9,7 +10,7 @@ use Rattle.cs_match.specs.Lines.{newline}
 use Rattle.cs_match.specs.NoNewline.{HasNoNewline}
 use Rattle.cs_match.specs.Skipped.{AreLinesBetween}
 use Rattle.cs_match.specs.Skipping.{AreWholeLines}
-use Rattle.cs_match.specs.declared.table.Table.{Table}
+use Rattle.cs_match.specs.declared.lanes.Table.{Table}
 use Rattle.cs_match.specs.declared.lanes.Lane.{Lane}
 use Rattle.cs_match.specs.Table.{unknown, TellsLines}
 use Rattle.cs_match.specs.MatchingEnds.{matching_ends, newlines_between}
@@ -33,6 +34,26 @@ newlines_within block from to = omega (
   count_by-le-length (λ b. nat_eq b newline) (take (to - from) (drop from block)),
   length-take (to - from) (drop from block),
 )
+
+-- so many ends, which begin at `from`, are moved behind the first `count`
+module _ (old new : List ℕ) (count from more : ℕ) (order : count ≤ from) (within : from + more ≤ length old)
+    (is : new ≡ paste old count (drop from old) (from + more - from)) where
+  pasted : new ≡ paste old count (drop from old) more
+  pasted = is ∙ ap (paste old count (drop from old)) (omega arith)
+
+  enough : more ≤ length (drop from old)
+  enough = omega (arith, length-drop from old, within)
+
+  pub moved_ends : take (count + more) new ≡ take count old ++ take more (drop from old)
+  moved_ends = ap (take (count + more)) pasted ∙ take-paste old count (drop from old) more (omega (arith, order, within)) enough
+
+  pub moved_rest : drop (from + more) new ≡ drop (from + more) old
+  moved_rest =
+      let past : count + more + (from - count) ≡ from + more = omega (arith, order) in
+      ap (λ n. drop n new) (sym past) ∙ sym (drop-drop (from - count) (count + more) new)
+      ∙ ap (drop (from - count)) (ap (drop (count + more)) pasted
+      ∙ drop-paste old count (drop from old) more (omega (arith, order, within)) enough)
+      ∙ drop-drop (from - count) (count + more) old ∙ ap (λ n. drop n old) past
 
 -- no newline
 newlines_part : (part : List ℕ) → HasNoNewline part → count_by (λ b. nat_eq b newline) part ≡ 0

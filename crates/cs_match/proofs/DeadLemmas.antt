@@ -6,7 +6,7 @@ use Rattle.cs_syntax.specs.Matching.{Tree, Trees, empty, one_of, one_char, cat, 
 use Rattle.cs_syntax.specs.declared.char_step.CharStep.{CharStep}
 use Rattle.cs_syntax.specs.declared.char_step.CharStep.TheVariants.{Nothing, Single, Begins, Inside, Completes}
 use Rattle.cs_match.specs.declared.position.Input.{Input}
-use Rattle.cs_match.specs.declared.look_around.LookAround.{LookAround}
+use Rattle.cs_match.specs.declared.state.LookAround.{LookAround}
 use Rattle.cs_match.specs.declared.state.State.{State}
 use Rattle.cs_match.specs.Anchored.{is_anchored, begins_anchored, are_anchored}
 use Rattle.cs_match.specs.Glushkov.{position_count, position_count_of, nullable, nullable_all, nullable_some, is_final, is_final_all, is_final_some, accepts, step_chars, step, step_all, step_each}
@@ -148,7 +148,7 @@ module _ (a : LookAround) where
             rw (first_part t ts, rest_part t ts, stays_empty t p.0, stays_empty_each ts p.1) (both t ts)
 
 module _ (t : Tree) (anchored : is_anchored t ≡ true) where
-  not_accepted : (n : State) → n.positions ≡ no_positions (position_count t) → n.first ≡ false → (b : ℕ) → accepts_before t n b ≡ false
+  not_accepted : (n : State) → n.positions ≡ no_positions (position_count t) → n.behind.first ≡ false → (b : ℕ) → accepts_before t n b ≡ false
   not_accepted n blank later b =
       let here = before t n b in
       let not_first : here.first ≡ false = elim (cases_Bool (nat_eq b newline)) [
@@ -158,7 +158,7 @@ module _ (t : Tree) (anchored : is_anchored t ≡ true) where
       ap (λ ms. accepts t true ms here) blank ∙ rw (not_final here t, not_nullable here not_first t anchored) refl
 
   -- a state without positions is dead
-  pub is_dead : (n : State) → n.positions ≡ no_positions (position_count t) → n.first ≡ false → IsDead t n
+  pub is_dead : (n : State) → n.positions ≡ no_positions (position_count t) → n.behind.first ≡ false → IsDead t n
   is_dead n blank later [] b = not_accepted n blank later b
   is_dead n blank later (c ∷ bytes) b =
       let moved = ap (λ ms. step t true ms (ahead t n c) (input t n c)) blank ∙ stays_empty (ahead t n c) later (input t n c) t anchored in

@@ -7,7 +7,7 @@ use Rattle.cs_syntax.specs.CharSteps.{taken_after, begun_after}
 use Rattle.cs_syntax.specs.declared.char_step.CharStep.{CharStep}
 use Rattle.cs_syntax.specs.declared.char_step.CharStep.TheVariants.{Single, Begins, Inside, Completes, Nothing}
 use Rattle.cs_match.specs.declared.position.Input.{Input}
-use Rattle.cs_match.specs.declared.look_around.LookAround.{LookAround}
+use Rattle.cs_match.specs.declared.state.LookAround.{LookAround}
 use Rattle.cs_match.specs.declared.position.Position.{Position}
 use Rattle.cs_match.specs.Glushkov.{position_count, position_count_of, is_final, accepts, step, step_all, step_each}
 use Rattle.cs_match.specs.PositionSet.{is_moved}

@@ -7,7 +7,7 @@ use Rattle.cs_syntax.specs.Matching.{Tree, empty, one_of, one_char, cat, alt, re
 use Rattle.cs_syntax.specs.ByteSet.{union}
 use Rattle.cs_match.specs.Anchored.{is_anchored}
 use Rattle.cs_match.specs.Expansion.{expansion, optional}
-use Rattle.cs_match.specs.declared.look_around.LookAround.{LookAround}
+use Rattle.cs_match.specs.declared.state.LookAround.{LookAround}
 use Rattle.cs_match.specs.Lines.{lines, terminated_lines}
 use Rattle.cs_match.specs.PositionSet.{positions_of, intersect}
 use Rattle.cs_match.specs.Glushkov.{repeats, loop_ends, accepts}
@@ -22,7 +22,7 @@ use Rattle.cs_syntax.specs.CharSteps.{finished}
 use Rattle.cs_match.specs.declared.state.State.{State}
 use Rattle.cs_match.specs.ByteClasses.{AreAlike}
 use Rattle.cs_match.specs.declared.byte_classes.ByteClasses.{ByteClasses}
-use Rattle.cs_match.specs.declared.table.Table.{Table}
+use Rattle.cs_match.specs.declared.lanes.Table.{Table}
 use Rattle.cs_match.specs.LazyDfa.{accepted_number, until_newline}
 use Rattle.cs_match.specs.Table.{number_after}
 use Rattle.cs_match.specs.Size.{nodes}
@@ -110,10 +110,10 @@ unfolding number_after
 after_of_two = refl
 
 -- after `a` the byte before is a word character, after `a-` it is not
-after_a_letter : state word_edge (97 ∷ []) ≡ record { positions = []; first = false; word = true; unfinished = finished }
+after_a_letter : state word_edge (97 ∷ []) ≡ record { positions = []; behind = record { first = false; word = true; unfinished = finished } }
 after_a_letter = refl
 
-after_a_dash : state word_edge (97 ∷ 45 ∷ []) ≡ record { positions = []; first = false; word = false; unfinished = finished }
+after_a_dash : state word_edge (97 ∷ 45 ∷ []) ≡ record { positions = []; behind = record { first = false; word = false; unfinished = finished } }
 after_a_dash = refl
 
 -- a tree without `\b` and `^` tells neither a word byte nor the start of the line
@@ -122,7 +122,7 @@ after_no_question = (refl, refl)
 
 -- a word byte is unlike another byte
 dash_and_letter : ¬ AreAlike word_edge (state word_edge []) 45 97
-dash_and_letter alike = both_ways false refl (ap (λ (n : State). n.word) alike.successor)
+dash_and_letter alike = both_ways false refl (ap (λ (n : State). n.behind.word) alike.successor)
 
 -- `\b` accepts before the end of the line `a`, and between `a` and `-`; not between `a` and `b`
 edge_at_the_end : accepts_before word_edge (state word_edge (97 ∷ [])) 10 ≡ true

@@ -13,10 +13,10 @@ use Rattle.cs_syntax.proofs.CutLemmas.{divide_append}
 use Rattle.cs_syntax.proofs.CharStepLemmas.{taken_matches}
 use Rattle.cs_syntax.proofs.EncodingLemmas.{one_byte, two_bytes, three_bytes, four_bytes}
 use Rattle.cs_match.specs.declared.position.Input.{Input}
-use Rattle.cs_match.specs.declared.look_around.LookAround.{LookAround}
+use Rattle.cs_match.specs.declared.state.LookAround.{LookAround}
 use Rattle.cs_match.specs.Glushkov.{look_around, position_count, position_count_of, nullable, nullable_all, nullable_some, is_final, is_final_all, is_final_some, accepts, step, step_all, step_each, cuts_of, unfinished_before, input_at, positions, accepts_at, accepts_in, IsExpanded, AreExpanded}
 use Rattle.cs_match.specs.LookBehind.{look_behind, look_behind_of}
-use Rattle.cs_match.specs.declared.look_around.LookBehind.{LookBehind}
+use Rattle.cs_match.specs.declared.state.LookBehind.{LookBehind}
 
 mutual
   pub length-step : (t : Tree) (enter : Bool) (ms : List Bool) (a : LookAround) (b : Input) →

@@ -3,7 +3,7 @@ use Rattle.std.proofs.Common.{◌≡◌, ◌≢◌, ℕ, ◌+◌, ◌-◌, ◌<�
 use Rattle.std.proofs.lemmas.List.{take-append-drop}
 use Rattle.std.proofs.lemmas.List.Elements.{All-take, All-drop, All-append, All-cons, All-nil, All-from_get_or}
 use Rattle.cs_tree.specs.ByteList.{AreBytes}
-use Rattle.cs_match.specs.declared.table.Table.{Table}
+use Rattle.cs_match.specs.declared.lanes.Table.{Table}
 use Rattle.cs_match.specs.ConsistentDfa.{Dfa, IsConsistent, IsKnown, table_in, count_in}
 use Rattle.cs_match.specs.LazyDfa.{match_number, dead_number, start_number}
 use Rattle.cs_match.specs.Lines.{newline}

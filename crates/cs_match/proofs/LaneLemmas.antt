@@ -5,7 +5,7 @@ use Rattle.std.proofs.lemmas.List.Elements.{All-take, All-drop, All-from_get_or}
 use Rattle.cs_tree.specs.ByteList.{AreBytes}
 use Rattle.cs_match.specs.Lines.{newline}
 use Rattle.cs_match.specs.LastPart.{last_part}
-use Rattle.cs_match.specs.declared.table.Table.{Table}
+use Rattle.cs_match.specs.declared.lanes.Table.{Table}
 use Rattle.cs_match.specs.declared.lanes.Lane.{Lane}
 use Rattle.cs_match.specs.Table.{next_number, number_after, found, unknown, table_start, IsRow, HasRows, BeginsLine, TellsLines}
 use Rattle.cs_match.specs.MatchingEnds.{matching_ends, newlines_between}

@@ -5,7 +5,7 @@ use Rattle.std.proofs.lemmas.Bool.{cases_lt}
 use Rattle.std.proofs.lemmas.List.{length-map, get_or_append_left}
 use Rattle.cs_syntax.specs.Matching.{Tree}
 use Rattle.cs_match.specs.declared.position.Input.{Input}
-use Rattle.cs_match.specs.declared.masks.Mask.{Mask}
+use Rattle.cs_match.specs.declared.position.Mask.{Mask}
 use Rattle.cs_match.specs.declared.position.Position.{Position}
 use Rattle.cs_match.specs.Glushkov.{position_count}
 use Rattle.cs_match.specs.Entered.{position_list, if_entered, if_previous, if_kept}

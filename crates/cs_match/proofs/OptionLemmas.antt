@@ -7,7 +7,7 @@ use Rattle.std.proofs.lemmas.List.{get_or_append_left, get_or-append_right, get_
 use Rattle.std.specs.Prelude.{if◌then◌else◌}
 use Rattle.std.specs.Int.{bit_at}
 use Rattle.cs_syntax.specs.Matching.{none}
-use Rattle.cs_match.specs.declared.look_around.LookAround.{LookAround}
+use Rattle.cs_match.specs.declared.state.LookAround.{LookAround}
 use Rattle.cs_match.specs.Expansion.{copies}
 use Rattle.cs_match.specs.Glushkov.{position_count, nullable, nullable_all, is_final, is_final_all, accepts}
 use Rattle.cs_match.specs.Entered.{entered, entered_all, AreShifted}

@@ -6,7 +6,7 @@ use Rattle.std.proofs.Math.Seq.{take-take}
 use Rattle.std.proofs.lemmas.List.{drop-drop, drop-take}
 use Rattle.cs_syntax.specs.Matching.{Tree, Trees, cat, alt, none, more}
 use Rattle.cs_syntax.specs.TreeList.{append}
-use Rattle.cs_match.specs.declared.look_around.LookAround.{LookAround}
+use Rattle.cs_match.specs.declared.state.LookAround.{LookAround}
 use Rattle.cs_match.specs.Glushkov.{position_count, position_count_of, repeats, repeats_of, nullable, nullable_all, nullable_some, is_final, is_final_all, accepts, loop_ends, loop_ends_of}
 use Rattle.cs_match.specs.Expansion.{copies}
 use Rattle.cs_match.specs.Entered.{entered, entered_all}

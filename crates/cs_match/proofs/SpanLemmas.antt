@@ -8,7 +8,7 @@ use Rattle.cs_match.specs.Glushkov.{look_around, input_at, position_count, step,
 use Rattle.cs_syntax.specs.CharSteps.{finished, unfinished_after}
 use Rattle.cs_syntax.specs.declared.char_step.CharStep.{CharStep}
 use Rattle.cs_syntax.specs.declared.char_step.Unfinished.{Unfinished}
-use Rattle.cs_match.specs.declared.look_around.LookAround.{LookAround}
+use Rattle.cs_match.specs.declared.state.LookAround.{LookAround}
 use Rattle.cs_match.specs.Span.{IsWholeWord, IsMatchOf, FirstSpansAreUnique}
 use Rattle.cs_match.specs.SpanSearch.{BeginFrom, EndFrom, EndsAt, IsLastEnd}
 use Rattle.cs_match.specs.Passes.{between, may_begin, may_end, positions_in, ends_in, PassesFindEnds, IsPassAt, IsPassOf}

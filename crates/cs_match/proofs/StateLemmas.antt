@@ -9,7 +9,7 @@ use Rattle.cs_syntax.specs.Matching.{Tree, is_word, word_before, word_after, is_
 use Rattle.cs_syntax.specs.CharSteps.{unfinished_after}
 use Rattle.cs_syntax.specs.declared.char_step.CharStep.{CharStep}
 use Rattle.cs_syntax.specs.declared.char_step.Unfinished.{Unfinished}
-use Rattle.cs_match.specs.declared.look_around.LookAround.{LookAround}
+use Rattle.cs_match.specs.declared.state.LookAround.{LookAround}
 use Rattle.cs_match.specs.declared.state.State.{State}
 use Rattle.cs_match.specs.Glushkov.{look_around, input_at, unfinished_before, position_count, accepts, step, char_step_of, cuts_of, positions, accepts_in}
 use Rattle.cs_match.specs.Digits.{IsBlock}
@@ -31,17 +31,17 @@ length-successor t n b =
     ]
 
 -- each state has an unfinished character of a whole block
-pub block_start : (t : Tree) → IsBlock (cuts_of t) (start t).unfinished
+pub block_start : (t : Tree) → IsBlock (cuts_of t) (start t).behind.unfinished
 block_start t = record { multiple = λ split. (0, refl) }
 
-pub block_successor : (t : Tree) (n : State) (b : ℕ) → IsBlock (cuts_of t) n.unfinished → IsBlock (cuts_of t) (successor t n b).unfinished
+pub block_successor : (t : Tree) (n : State) (b : ℕ) → IsBlock (cuts_of t) n.behind.unfinished → IsBlock (cuts_of t) (successor t n b).behind.unfinished
 block_successor t n b is =
     elim (cases_eq b 10) [
       | inl e ↦ rw (eq-eqb b 10 e) (block_start t)
       | inr other ↦
           rw (ne_eqb b 10 other)
           (elim (cases_Bool (look_behind t).char) [
-            | inl on ↦ rw on (block_after (cuts_of t) n.unfinished b is)
+            | inl on ↦ rw on (block_after (cuts_of t) n.behind.unfinished b is)
             | inr off ↦ rw off (block_start t)
           ])
     ]
@@ -70,9 +70,9 @@ xor-is false false = refl
 
 -- a step over a byte, by its parts
 module _ (t u : Tree) (n : State) (b : ℕ) (edge word : Bool) (same : u ≡ t) (is_word : word ≡ is_word_for t b)
-    (is_edge : edge ≡ xor n.word word) where
+    (is_edge : edge ≡ xor n.behind.word word) where
   abbrev here : LookAround
-  here = record { first = n.first; last = false; edge = edge }
+  here = record { first = n.behind.first; last = false; edge = edge }
 
   here_is : here ≡ ahead t n b
   here_is = rw (is_edge, is_word) refl
@@ -80,10 +80,10 @@ module _ (t u : Tree) (n : State) (b : ℕ) (edge word : Bool) (same : u ≡ t) 
   pub accepts_here : accepts u true n.positions here ≡ accepts t true n.positions (ahead t n b)
   accepts_here = ap (λ x. accepts x true n.positions here) same ∙ ap (accepts t true n.positions) here_is
 
-  pub moves_to : (char : CharStep) (after : Unfinished) (ps : List Bool) → char ≡ char_step_of t n.unfinished b → after
+  pub moves_to : (char : CharStep) (after : Unfinished) (ps : List Bool) → char ≡ char_step_of t n.behind.unfinished b → after
       ≡ unfinished_after char →
       ps ≡ step u true n.positions here (record { byte = b; char = char }) →
-      record { positions = ps; first = false; word = word; unfinished = after } ≡ next_state t n b
+      record { positions = ps; behind = record { first = false; word = word; unfinished = after } } ≡ next_state t n b
   moves_to char after ps is_char is_after moved =
       let ps_is : ps ≡ step t true n.positions (ahead t n b) (input t n b) =
       moved ∙ ap (λ x. step x true n.positions here (record { byte = b; char = char })) same
@@ -96,9 +96,11 @@ module _ (t : Tree) (s : List ℕ) where
   abbrev at_offset : ℕ → State
   at_offset i = record {
     positions = positions (look_around t s) (input_at t s) t (λ _. true) i;
-    first = nat_eq i 0 && (look_behind t).first;
-    word = word_before s i && (look_behind t).word;
-    unfinished = unfinished_before t s i;
+    behind = record {
+      first = nat_eq i 0 && (look_behind t).first;
+      word = word_before s i && (look_behind t).word;
+      unfinished = unfinished_before t s i;
+    };
   }
 
   word_at : (i : ℕ) → i < length s → word_after s i ≡ is_word (slice_index s i)

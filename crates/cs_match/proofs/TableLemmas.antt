@@ -7,7 +7,7 @@ use Rattle.cs_syntax.specs.Matching.{Tree}
 use Rattle.cs_tree.specs.ByteList.{AreBytes}
 use Rattle.cs_match.specs.declared.byte_classes.ByteClasses.{ByteClasses}
 use Rattle.cs_match.specs.declared.state.State.{State}
-use Rattle.cs_match.specs.declared.table.Table.{Table}
+use Rattle.cs_match.specs.declared.lanes.Table.{Table}
 use Rattle.cs_match.specs.ByteClasses.{AreClasses}
 use Rattle.cs_match.specs.CachedStates.{StateList}
 use Rattle.cs_match.specs.Deciding.{Decides}

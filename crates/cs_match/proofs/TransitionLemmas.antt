@@ -385,7 +385,7 @@ module _ (t : Tree) (classes : ByteClasses) (states : StateList) (transitions : 
       right = right_more;
     }
 
-    pub added_states : length states.items < states.most → length state.positions ≡ position_count t → IsBlock (cuts_of t) state.unfinished →
+    pub added_states : length states.items < states.most → length state.positions ≡ position_count t → IsBlock (cuts_of t) state.behind.unfinished →
         AreStates t classes.count (record states { items = more_states })
     added_states room size block = record {
       first = omega (arith, right.first, length_more);
@@ -405,12 +405,12 @@ module _ (t : Tree) (classes : ByteClasses) (states : StateList) (transitions : 
         ]
       ];
       blocks = λ slot. elim (cases_lt slot (length states.items)) [
-        | inl old ↦ subst (λ (n : State). IsBlock (cuts_of t) n.unfinished) (sym (kept_state slot old)) (right.blocks slot)
+        | inl old ↦ subst (λ (n : State). IsBlock (cuts_of t) n.behind.unfinished) (sym (kept_state slot old)) (right.blocks slot)
         | inr new ↦ elim (cases_eq slot (length states.items)) [
-          | inl e ↦ subst (λ (n : State). IsBlock (cuts_of t) n.unfinished)
+          | inl e ↦ subst (λ (n : State). IsBlock (cuts_of t) n.behind.unfinished)
               (sym (ap (λ k. state_at t more_states k) e ∙ at_last)) block
           | inr past ↦
-              subst (λ (n : State). IsBlock (cuts_of t) n.unfinished)
+              subst (λ (n : State). IsBlock (cuts_of t) n.behind.unfinished)
               (sym (get_or_past more_states slot (start t) (omega (arith, length_more, new, past)))) (block_start t)
         ]
       ];
@@ -495,8 +495,8 @@ emptied_states t count states right =
         | inr ge ↦ ap (λ (n : State). length n.positions) (past slot ge) ∙ length-replicate (position_count t) false
       ];
       blocks = λ slot. elim (cases_lt slot 5) [
-        | inl lt ↦ subst (λ (n : State). IsBlock (cuts_of t) n.unfinished) (sym (kept slot lt)) (right.blocks slot)
-        | inr ge ↦ subst (λ (n : State). IsBlock (cuts_of t) n.unfinished) (sym (past slot ge)) (block_start t)
+        | inl lt ↦ subst (λ (n : State). IsBlock (cuts_of t) n.behind.unfinished) (sym (kept slot lt)) (right.blocks slot)
+        | inr ge ↦ subst (λ (n : State). IsBlock (cuts_of t) n.behind.unfinished) (sym (past slot ge)) (block_start t)
       ];
     }
 
@@ -521,5 +521,5 @@ first_states t count states are =
       found = one 0;
       begin = one 4;
       positions = λ k. ap (λ (n : State). length n.positions) (one k) ∙ length-replicate (position_count t) false;
-      blocks = λ k. subst (λ (n : State). IsBlock (cuts_of t) n.unfinished) (sym (one k)) (block_start t);
+      blocks = λ k. subst (λ (n : State). IsBlock (cuts_of t) n.behind.unfinished) (sym (one k)) (block_start t);
     }

@@ -6,7 +6,7 @@ use Rattle.std.proofs.Math.ListN.{drop_of_length-le}
 use Rattle.std.proofs.Math.Seq.{sets, sets-eq, set_comm, take-take, get_or-take}
 use Rattle.std.proofs.lemmas.List.{append-nil, take-append-drop, drop-drop, drop-take, length-take, get_or-drop, take_at, drop_at}
 use Rattle.cs_syntax.specs.Matching.{Tree, Trees, one_of, one_char, cat, alt, rep, none, more}
-use Rattle.cs_match.specs.declared.look_around.LookAround.{LookAround}
+use Rattle.cs_match.specs.declared.state.LookAround.{LookAround}
 use Rattle.cs_match.specs.Glushkov.{position_count, position_count_of, repeats, repeats_of, nullable, nullable_all, nullable_some, is_final, is_final_all, is_final_some, accepts, loop_ends, loop_ends_of}
 use Rattle.cs_match.specs.Entered.{entered, entered_all, entered_each, AreShifted}
 use Rattle.cs_match.specs.Parts.{run, optional_run, options, HaveSameShape}

@@ -71,7 +71,7 @@ pub record AreNumbered (begins : List ℕ) (classes : ByteClasses) : Type 0 wher
 -- no state tells two bytes of a class apart, so no other byte is in the class of the newline
 pub record AreClasses (t : Tree) (classes : ByteClasses) : Type 0 where
   pub alike : (b c : ℕ) → b < 256 → c < 256 → slice_index classes.of b ≡ slice_index classes.of c →
-      (state : State) → IsBlock (cuts_of t) state.unfinished → AreAlike t state b c
+      (state : State) → IsBlock (cuts_of t) state.behind.unfinished → AreAlike t state b c
   pub firsts : HaveFirsts classes
   pub range : (b : ℕ) → b < 256 → slice_index classes.of b < classes.count
   pub few : classes.count ≤ 256

@@ -1,6 +1,6 @@
 -- The states that a lazy DFA has cached, in flat vectors.
 use Rattle.std.specs.Prelude.{ℕ, ◌≡◌, List, [], ◌∷◌, Bool, take, drop}
-use Rattle.cs_match.specs.declared.cached_states.Behind.{Behind}
+use Rattle.cs_match.specs.declared.state.Behind.{Behind}
 use Rattle.cs_match.specs.declared.state.State.{State}
 use Rattle.cs_match.specs.PositionSet.{positions_of, IsPositionSet}
 use Rattle.cs_match.specs.Work.{words}
@@ -11,19 +11,12 @@ pub record StateList : Type 0 where
   pub most : ℕ
   pub positions : ℕ
 
--- the state without its positions, and with others
-abbrev pub behind_of : State → Behind
-behind_of state = record { first = state.first; word = state.word; unfinished = state.unfinished }
-
-abbrev pub with_positions : List Bool → Behind → State
-with_positions positions behind =
-    record { positions = positions; first = behind.first; word = behind.word; unfinished = behind.unfinished }
-
--- the states that have these words, as many each as so many positions need, and these rests
+-- the states that have these words, as many each as so many positions need, and these look-behinds
 unfoldable pub states_of : ℕ → List ℕ → List Behind → List State
 states_of count sets [] = []
 states_of count sets (behind ∷ behinds) =
-    with_positions (positions_of (take (words count) sets) count) behind ∷ states_of count (drop (words count) sets) behinds
+    record { positions = positions_of (take (words count) sets) count; behind = behind }
+    ∷ states_of count (drop (words count) sets) behinds
 
 -- the words are those of a position set for each state
 unfoldable pub AreSets : ℕ → List ℕ → List Behind → Type 0

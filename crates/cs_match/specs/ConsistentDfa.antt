@@ -12,7 +12,7 @@ use Rattle.cs_match.specs.Glushkov.{position_count, IsExpanded}
 use Rattle.cs_match.specs.Masks.{IsScratch}
 use Rattle.cs_match.specs.LazyDfa as dfa
 use Rattle.cs_match.specs.Table.{next_number, number_after, unknown, IsRow}
-use Rattle.cs_match.specs.declared.table.Table.{Table}
+use Rattle.cs_match.specs.declared.lanes.Table.{Table}
 use Rattle.cs_prefilter.specs.declared.steps.Steps.{Steps}
 use Rattle.cs_prefilter.specs.CountsAtMost.{CountsAtMost}
 

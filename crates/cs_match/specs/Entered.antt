@@ -5,7 +5,7 @@ use Rattle.std.specs.Prelude.{ℕ, suc, ◌≡◌, Bool, true, false, ◌&&◌, 
 use Rattle.cs_syntax.specs.Matching.{Tree, Trees, empty, one_of, one_char, cat, alt, rep, line_start, line_end, word_edge, not_word_edge, none, more, member}
 use Rattle.cs_syntax.specs.CharSteps.{taken_after, begun_after}
 use Rattle.cs_match.specs.declared.position.Input.{Input}
-use Rattle.cs_match.specs.declared.look_around.LookAround.{LookAround}
+use Rattle.cs_match.specs.declared.state.LookAround.{LookAround}
 use Rattle.cs_match.specs.declared.position.Position.{Position}
 use Rattle.cs_match.specs.declared.position.Position.TheVariants.{Bytes, Begun, Taken}
 use Rattle.cs_match.specs.Glushkov.{position_count, is_final, accepts}

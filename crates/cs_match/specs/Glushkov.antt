@@ -12,8 +12,8 @@ use Rattle.cs_syntax.specs.declared.char_step.Unfinished.{Unfinished}
 use Rattle.cs_syntax.specs.declared.char_step.CharStep.{CharStep}
 use Rattle.cs_syntax.specs.declared.char_step.CharStep.TheVariants.{Nothing}
 use Rattle.cs_match.specs.declared.position.Input.{Input}
-use Rattle.cs_match.specs.declared.look_around.LookAround.{LookAround}
-use Rattle.cs_match.specs.declared.look_around.LookBehind.{LookBehind}
+use Rattle.cs_match.specs.declared.state.LookAround.{LookAround}
+use Rattle.cs_match.specs.declared.state.LookBehind.{LookBehind}
 use Rattle.cs_match.specs.LookBehind.{look_behind}
 
 -- the look-around at offset i of the line; what the tree has no assertion for is false

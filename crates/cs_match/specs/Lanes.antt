@@ -1,6 +1,6 @@
 -- Lanes: each scans a chunk of a block, and lists the ends of its matching lines.
 use Rattle.std.specs.Prelude.{ℕ, ◌≡◌, ◌≢◌, ◌<◌, ◌≤◌, ◌+◌, ◌*◌, ◌/◌, ◌⊎◌, Bool, List, length, take, slice_index, slice_index_or, slice_range}
-use Rattle.cs_match.specs.declared.table.Table.{Table}
+use Rattle.cs_match.specs.declared.lanes.Table.{Table}
 use Rattle.cs_match.specs.declared.lanes.Lane.{Lane}
 use Rattle.cs_match.specs.LastPart.{last_part}
 use Rattle.cs_match.specs.MatchingEnds.{matching_ends, newlines_between}

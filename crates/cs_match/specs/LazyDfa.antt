@@ -99,7 +99,7 @@ pub record AreStates (t : Tree) (count : ℕ) (states : StateList) : Type 0 wher
   pub found : state_at t states.items 0 ≡ start t
   pub begin : state_at t states.items 4 ≡ start t
   pub positions : (slot : ℕ) → length (state_at t states.items slot).positions ≡ position_count t
-  pub blocks : (slot : ℕ) → IsBlock (cuts_of t) (state_at t states.items slot).unfinished
+  pub blocks : (slot : ℕ) → IsBlock (cuts_of t) (state_at t states.items slot).behind.unfinished
 
 -- each state has a row, each transition has the number of a row, the rows of the special states are as at first, and each
 -- transition of the others is unknown or correct

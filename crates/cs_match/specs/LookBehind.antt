@@ -2,7 +2,7 @@
 -- for `\b` and `\B`; and which character is unfinished, for sets of characters.
 use Rattle.std.specs.Prelude.{true, false, ◌||◌}
 use Rattle.cs_syntax.specs.Matching.{Tree, Trees, empty, one_of, one_char, cat, alt, rep, line_start, line_end, word_edge, not_word_edge, none, more}
-use Rattle.cs_match.specs.declared.look_around.LookBehind.{LookBehind}
+use Rattle.cs_match.specs.declared.state.LookBehind.{LookBehind}
 
 abbrev pub no_bits : LookBehind
 no_bits = record { first = false; word = false; char = false }

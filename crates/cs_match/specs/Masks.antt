@@ -2,8 +2,8 @@
 use Rattle.std.specs.Prelude.{ℕ, ◌≡◌, ◌+◌, ◌<◌, true, List, length, map, vec_len, slice_index_or}
 use Rattle.cs_syntax.specs.Matching.{Tree}
 use Rattle.cs_match.specs.declared.position.Position.{Position}
-use Rattle.cs_match.specs.declared.masks.Mask.{Mask}
-use Rattle.cs_match.specs.declared.masks.Masks.{Masks}
+use Rattle.cs_match.specs.declared.position.Mask.{Mask}
+use Rattle.cs_match.specs.declared.position.Masks.{Masks}
 use Rattle.cs_match.specs.declared.glushkov.Scratch.{Scratch}
 use Rattle.cs_match.specs.Glushkov.{position_count, repeats}
 use Rattle.cs_match.specs.Entered.{position_list, if_entered, if_previous, if_kept}

@@ -2,7 +2,7 @@
 use Rattle.std.specs.Prelude.{ℕ, suc, ◌≡◌, ◌+◌, sum, Bool, List, [], ◌∷◌, map, None}
 use Rattle.cs_syntax.specs.Matching.{Tree, Trees, one_of, cat, alt, rep, line_start, line_end, word_edge, not_word_edge, none, more}
 use Rattle.cs_syntax.specs.Node.{trees}
-use Rattle.cs_match.specs.declared.look_around.LookAround.{LookAround}
+use Rattle.cs_match.specs.declared.state.LookAround.{LookAround}
 use Rattle.cs_match.specs.declared.parts.Fragment.{Fragment}
 use Rattle.cs_match.specs.declared.parts.Fragment.TheOpen.{Fragment-F}
 use Rattle.cs_match.specs.declared.parts.Fragment.TheFolds.{fold-Fragment}

@@ -5,7 +5,7 @@ use Rattle.std.specs.Bool.{xor}
 use Rattle.cs_syntax.specs.Matching.{Tree, is_word}
 use Rattle.cs_syntax.specs.CharSteps.{finished, unfinished_after}
 use Rattle.cs_match.specs.declared.position.Input.{Input}
-use Rattle.cs_match.specs.declared.look_around.LookAround.{LookAround}
+use Rattle.cs_match.specs.declared.state.LookAround.{LookAround}
 use Rattle.cs_match.specs.declared.state.State.{State}
 use Rattle.cs_match.specs.Lines.{newline}
 use Rattle.cs_match.specs.Glushkov.{position_count, step, accepts, char_step_of}
@@ -13,7 +13,10 @@ use Rattle.cs_match.specs.LookBehind.{look_behind}
 
 -- the start state
 abbrev pub start : Tree → State
-start t = record { positions = replicate (position_count t) false; first = (look_behind t).first; word = false; unfinished = finished }
+start t = record {
+  positions = replicate (position_count t) false;
+  behind = record { first = (look_behind t).first; word = false; unfinished = finished };
+}
 
 -- the byte is a word byte, and the tree has `\b` or `\B`
 abbrev pub is_word_for : Tree → ℕ → Bool
@@ -21,23 +24,21 @@ is_word_for t b = is_word b && (look_behind t).word
 
 -- the look-around before the byte b of a line
 abbrev pub ahead : Tree → State → ℕ → LookAround
-ahead t state b = record { first = state.first; last = false; edge = xor state.word (is_word_for t b) }
+ahead t state b = record { first = state.behind.first; last = false; edge = xor state.behind.word (is_word_for t b) }
 
 -- the look-around at the end of a line
 abbrev pub look_at_end : State → LookAround
-look_at_end state = record { first = state.first; last = true; edge = state.word }
+look_at_end state = record { first = state.behind.first; last = true; edge = state.behind.word }
 
 -- the byte b as input
 abbrev pub input : Tree → State → ℕ → Input
-input t state b = record { byte = b; char = char_step_of t state.unfinished b }
+input t state b = record { byte = b; char = char_step_of t state.behind.unfinished b }
 
 -- the state after the byte b of the line
 abbrev pub next_state : Tree → State → ℕ → State
 next_state t state b = record {
   positions = step t true state.positions (ahead t state b) (input t state b);
-  first = false;
-  word = is_word_for t b;
-  unfinished = unfinished_after (input t state b).char;
+  behind = record { first = false; word = is_word_for t b; unfinished = unfinished_after (input t state b).char };
 }
 
 -- the state after the bytes, from a given state

@@ -1,7 +1,7 @@
 -- A borrowed transition table, as scans see it: no more of states is known than their numbers.
 use Rattle.std.specs.Prelude.{ℕ, ◌≡◌, ◌<◌, ◌≤◌, ◌+◌, ◌*◌, ◌⊎◌, Bool, if◌then◌else◌, List, [], ◌∷◌, ◌++◌, length, slice_index}
 use Rattle.cs_tree.specs.ByteList.{AreBytes}
-use Rattle.cs_match.specs.declared.table.Table.{Table}
+use Rattle.cs_match.specs.declared.lanes.Table.{Table}
 use Rattle.cs_match.specs.Lines.{newline}
 use Rattle.cs_match.specs.NoNewline.{HasNoNewline}
 

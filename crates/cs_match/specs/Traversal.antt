@@ -4,7 +4,7 @@ use Rattle.std.proofs.Math.Seq.{sets}
 use Rattle.cs_syntax.specs.Matching.{Tree, cat, alt}
 use Rattle.cs_match.specs.declared.glushkov.Configuration.{Configuration}
 use Rattle.cs_match.specs.declared.glushkov.Cursor.{Cursor}
-use Rattle.cs_match.specs.declared.look_around.LookAround.{LookAround}
+use Rattle.cs_match.specs.declared.state.LookAround.{LookAround}
 use Rattle.cs_match.specs.declared.parts.Fragment.{Fragment}
 use Rattle.cs_match.specs.Entered.{entered}
 use Rattle.cs_match.specs.Glushkov.{position_count, repeats, is_final, accepts, loop_ends}

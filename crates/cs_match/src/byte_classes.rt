@@ -2,16 +2,14 @@
 // tells apart. A transition is computed once for the bytes of a class.
 ghost use Rattle.std.specs.Prelude.{◌≡◌, ◌&&◌, ◌+◌, ◌<◌, ◌≤◌, ℕ, length, true, false, slice_index};
 ghost use Rattle.cs_syntax.specs.Matching.{member, is_word};
-ghost use Rattle.cs_syntax.specs.Characters.{has_char};
 ghost use Rattle.cs_syntax.specs.Cuts.{AreCuts, AreCutsOf};
 ghost use Rattle.cs_syntax.specs.Node.{tree_of};
-ghost use Rattle.cs_syntax.specs.NodeList.{trees_of};
 ghost use Rattle.cs_match.specs.LookBehind.{look_behind};
-ghost use Rattle.cs_match.specs.ByteClasses.{AreClasses, AreNumbered, HaveFirsts, StepAlike, begins_at, HaveBoth, AllHaveBoth, AddsMarks};
+ghost use Rattle.cs_match.specs.ByteClasses.{AreClasses, AreNumbered, HaveFirsts, StepAlike, begins_at, HaveBoth, AddsMarks};
 ghost use Rattle.cs_match.specs.Digits.{IsNoDigit};
 
-use crate::look_around::LookBehind;
-use cs_syntax::{ByteSet, CharSet, CharStep, Cuts, Node, Unfinished};
+use crate::state::LookBehind;
+use cs_syntax::{ByteSet, CharStep, Cuts, Node, Unfinished};
 
 /// The classes of the bytes, numbered in ascending order.
 #[derive(Clone, Copy, Drop)]
@@ -61,7 +59,7 @@ fn number_classes(begins: &[u8; 256]) -> ByteClasses
     let mut last = 0u8;
     let mut first = 0u8;
     for byte in 1..256usize {
-        if is_begin(begins, byte) {
+        if begins[byte] == 1 {
             last += 1;
             first = byte as u8;
         }
@@ -75,14 +73,6 @@ fn number_classes(begins: &[u8; 256]) -> ByteClasses
     }
 }
 
-/// Whether a class begins at the byte.
-fn is_begin(begins: &[u8; 256], byte: usize) -> bool
-    requires { byte < 256 }
-    ensures { result ≡ begins_at begins.now byte }
-{
-    begins[byte] == 1
-}
-
 /// Marks where word bytes begin and end, if the bits have one for them.
 fn mark_words(begins: &mut [u8], bits: LookBehind)
     requires { length begins.old ≡ 256 }
@@ -92,27 +82,21 @@ fn mark_words(begins: &mut [u8], bits: LookBehind)
 }
 
 /// Marks where the members of each set of the tree begin and end.
-#[cycle(mark_sets)]
 fn mark_sets(node: &Node, begins: &mut [u8])
     requires { length begins.old ≡ 256 }
     ensures { AddsMarks (HaveBoth (tree_of node.now)) begins.old begins.new }
 {
     match node {
         Node::Set(set) => mark_set(set, begins),
-        Node::Chars(set) => mark_chars(set, begins),
-        Node::Cat(parts) | Node::Alt(parts) => mark_all_sets(parts, begins),
+        // Among the numbers below 256.
+        Node::Chars(set) => mark_set(&ByteSet::of(|byte| set.contains(byte as u32)), begins),
+        Node::Cat(parts) | Node::Alt(parts) => {
+            for part in parts {
+                mark_sets(part, begins);
+            }
+        }
         Node::Rep(x, _, _) => mark_sets(x, begins),
         _ => {}
-    }
-}
-
-#[cycle(mark_sets)]
-fn mark_all_sets(parts: &[Node], begins: &mut [u8])
-    requires { length begins.old ≡ 256 }
-    ensures { AddsMarks (AllHaveBoth (trees_of parts.now)) begins.old begins.new }
-{
-    for part in parts {
-        mark_sets(part, begins);
     }
 }
 
@@ -129,14 +113,6 @@ fn mark_set(set: &ByteSet, begins: &mut [u8])
     for byte in 0..255u8 {
         mark(begins, byte + 1, set.contains(byte), set.contains(byte + 1));
     }
-}
-
-/// Marks where the members of the set begin and end, among the numbers below 256.
-fn mark_chars(set: &CharSet, begins: &mut [u8])
-    requires { length begins.old ≡ 256 }
-    ensures { AddsMarks (λ b c. has_char set.now b ≡ has_char set.now c) begins.old begins.new }
-{
-    mark_set(&ByteSet::of(|byte| set.contains(byte as u32)), begins);
 }
 
 /// Marks the byte if it is in a set and the byte before it is not, or the other way round.

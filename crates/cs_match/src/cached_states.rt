@@ -1,27 +1,17 @@
 // The states that a lazy DFA has cached, in flat vectors, and a hash table to look them up.
 ghost use Rattle.std.specs.Prelude.{◌≡◌, ◌+◌, ◌*◌, ◌<◌, ◌≤◌, ◌∷◌, ◌++◌, [], IfOk, IfSome, length, take, slice_index_or, true};
 ghost use Rattle.cs_match.specs.declared.state.State.{State};
-ghost use Rattle.cs_match.specs.CachedStates.{behind_of};
 ghost use Rattle.cs_match.specs.PositionSet.{positions_of, IsPositionSet};
 ghost use Rattle.cs_match.specs.Work.{words};
 ghost use Rattle.cs_prefilter.specs.CountsAtMost.{CountsAtMost};
 
-use crate::state::State;
+use crate::state::{Behind, State};
 use cs_prefilter::Steps;
-use cs_syntax::Unfinished;
 use std::alloc::{AllocError, Global};
 use std::marker::Model;
 
 /// The most places at which a state is looked for.
 const MOST_PROBES: usize = 8;
-
-/// What a state keeps of the bytes before the offset, besides its positions.
-#[derive(Clone, Copy, Drop)]
-pub(crate) struct Behind {
-    pub(crate) first: bool,
-    pub(crate) word: bool,
-    pub(crate) unfinished: Unfinished,
-}
 
 /// What a look-up gives: the slot of an equal cached state, if any, and a place for the state.
 #[derive(Clone, Copy)]
@@ -69,26 +59,6 @@ impl Model for CachedStates {
         × (s.most ≤ vec_capacity s.behinds)
         × (s.most ≤ vec_capacity s.places)
         × (s.most * words s.count ≤ vec_capacity s.sets) };
-}
-
-impl Behind {
-    /// What the state keeps of the bytes before the offset.
-    fn of(state: &State) -> Behind
-        ensures { result ≡ behind_of state.now }
-    {
-        Behind {
-            first: state.first,
-            word: state.word,
-            unfinished: state.unfinished,
-        }
-    }
-
-    /// Whether the state keeps the same.
-    fn is_of(self, state: &State) -> bool
-        ensures { result ≡ true → self ≡ behind_of state.now }
-    {
-        self.first == state.first && self.word == state.word && self.unfinished == state.unfinished
-    }
 }
 
 impl CachedStates {
@@ -144,18 +114,9 @@ impl CachedStates {
     /// The rest of a state.
     fn behind(&self, slot: usize) -> Behind
         requires { slot < length self.now.items }
-        ensures { (other : State) → result ≡ behind_of (slice_index_or self.now.items slot other) }
+        ensures { (other : State) → result ≡ (slice_index_or self.now.items slot other).behind }
     {
         self.behinds[slot]
-    }
-
-    /// Whether the state is cached in the slot.
-    fn is_at(&self, slot: usize, state: &State) -> bool
-        requires within { slot < length self.now.items }
-        requires positions { length state.now.positions ≡ self.now.positions }
-        ensures { result ≡ true → slice_index_or self.now.items slot state.now ≡ state.now }
-    {
-        self.behind(slot).is_of(state) && self.set(slot) == state.positions.words()
     }
 
     /// Looks for the state, and for its place.
@@ -175,7 +136,7 @@ impl CachedStates {
             if slot >= self.len() || self.places[slot] as usize != place {
                 return Lookup { slot: None, place };
             }
-            if self.is_at(slot, state) {
+            if self.behind(slot) == state.behind && self.set(slot) == state.positions.words() {
                 return Lookup {
                     slot: Some(slot),
                     place,
@@ -194,11 +155,8 @@ impl CachedStates {
         requires positions { length state.old.positions ≡ self.now.positions }
         ensures { (other : State) → state.new ≡ slice_index_or self.now.items slot other }
     {
-        let behind = self.behind(slot);
         state.positions.copy_from(self.set(slot));
-        state.first = behind.first;
-        state.word = behind.word;
-        state.unfinished = behind.unfinished;
+        state.behind = self.behind(slot);
     }
 
     /// Caches the state.
@@ -213,7 +171,7 @@ impl CachedStates {
         self.sets
             .extend_from_slice(state.positions.words())
             .unwrap();
-        self.behinds.push(Behind::of(state)).unwrap();
+        self.behinds.push(state.behind).unwrap();
     }
 
     /// Forgets all states but the first ones, so many.

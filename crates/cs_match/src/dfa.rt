@@ -14,18 +14,18 @@ ghost use Rattle.cs_match.specs.Lanes.{AreListed};
 ghost use Rattle.cs_match.specs.Glushkov.{position_count, cuts_of};
 ghost use Rattle.cs_match.specs.Digits.{IsBlock};
 ghost use Rattle.cs_match.specs.States.{successor, accepts_before, IsDead};
-ghost use Rattle.cs_match.specs.LazyDfa.{until_newline, accepted_number, most_rows, AreFirstRows, AreFirstStates, start_number};
+ghost use Rattle.cs_match.specs.LazyDfa.{until_newline, accepted_number, most_rows, AreFirstRows, start_number};
 ghost use Rattle.cs_match.specs.declared.state.State.{State};
-ghost use Rattle.cs_match.specs.ConsistentDfa.{StepsWithin, IsKnown, IsTableOf, table_in, HasSlot, HasState, LeadsIn, count_in, state_in};
 ghost use Rattle.cs_prefilter.specs.CountsAtMost.{CountsAtMost};
+ghost use Rattle.cs_match.specs.ConsistentDfa.{StepsWithin, IsKnown, IsTableOf, table_in, HasSlot, HasState, LeadsIn, count_in, state_in};
 
 use crate::byte_classes::ByteClasses;
 use crate::cached_states::CachedStates;
 use crate::glushkov::Scratch;
+use crate::lanes::Table;
+use crate::listing::line_end;
 use crate::program::Program;
-use crate::skipping::line_end;
 use crate::state::State;
-use crate::table::Table;
 use cs_prefilter::Steps;
 use std::alloc::{AllocError, Global};
 use std::marker::Model;
@@ -84,6 +84,7 @@ pub(crate) struct LazyDfa<'a> {
 }
 
 impl<'a> Model for LazyDfa<'a> {
+    ghost use Rattle.cs_prefilter.specs.CountsAtMost.{CountsAtMost};
     ghost use Rattle.cs_match.specs.ConsistentDfa.{Dfa, dfa_code, IsConsistent};
 
     ghost Value = { Dfa };
@@ -118,22 +119,6 @@ fn accepted(classes: u16, byte: u8) -> u16
     } else {
         MATCH * classes
     }
-}
-
-/// The first states of a program with so many classes: five times the start state.
-fn first_states(alloc: Global, classes: usize, start: &State) -> Result<CachedStates, AllocError>
-    requires some { 0 < classes }
-    requires few { classes ≤ 256 }
-    ensures { IfOk result (AreFirstStates classes start.now) }
-{
-    let count = start.positions.len();
-    let most = most_states(classes, count.div_ceil(64));
-    let mut states = CachedStates::new(alloc, most, count)?;
-    let place = start.hash() as usize;
-    for slot in 0..FIRST {
-        states.push(start, place);
-    }
-    Ok(states)
 }
 
 /// Adds the row of a state that stays until the newline.
@@ -177,7 +162,13 @@ impl<'a> LazyDfa<'a> {
     {
         let classes = *program.byte_classes();
         let scratch = State::new(alloc, program)?;
-        let cached = first_states(alloc, classes.count as usize, &scratch)?;
+        let count = scratch.positions.len();
+        let most = most_states(classes.count as usize, count.div_ceil(64));
+        let mut cached = CachedStates::new(alloc, most, count)?;
+        let place = scratch.hash() as usize;
+        for slot in 0..FIRST {
+            cached.push(&scratch, place);
+        }
         let memory = Scratch::new(alloc, program)?;
         let mut transitions = Vec::with_capacity(alloc, TRANSITIONS)?;
         write_first(&mut transitions, &classes);
@@ -377,7 +368,7 @@ impl<'a> LazyDfa<'a> {
     /// Whether the state under construction is known to be dead: each match begins at the start of
     /// the line, and no position is in the set.
     fn is_lost(&self, steps: &mut Steps) -> bool
-        requires later { self.now.states.scratch.first ≡ false }
+        requires later { self.now.states.scratch.behind.first ≡ false }
         ensures dead { result ≡ true → IsDead self.now.tree self.now.states.scratch }
         ensures work { CountsAtMost (words (position_count self.now.tree)) steps.old steps.new }
     {
@@ -400,7 +391,7 @@ impl<'a> LazyDfa<'a> {
     /// Caches the state under construction, and returns its number.
     fn add(&mut self, place: usize) -> u16
         requires room { length self.old.states.cached.items < self.old.states.cached.most }
-        requires block { IsBlock (cuts_of self.old.tree) self.old.states.scratch.unfinished }
+        requires block { IsBlock (cuts_of self.old.tree) self.old.states.scratch.behind.unfinished }
         ensures number { HasState self.new result self.old.states.scratch }
         ensures other { result ≢ 0 }
         ensures count { count_in self.new ≡ count_in self.old }

@@ -5,52 +5,42 @@
 ghost use Rattle.std.specs.Prelude.{◌≡◌, ℕ, ◌+◌, ◌*◌, ◌<◌, ◌≤◌, ◌^◌, ◌%◌, ◌==◌, ◌&&◌, ◌||◌, IfOk, length, take, drop, true, false, ◌++◌};
 ghost use Rattle.std.specs.Int.{bit_at};
 ghost use Rattle.cs_syntax.specs.Node.{tree_of};
-ghost use Rattle.cs_syntax.specs.NodeList.{trees_of};
 ghost use Rattle.cs_syntax.specs.Matching.{alt};
-ghost use Rattle.cs_match.specs.Glushkov.{position_count, position_count_of, repeats, repeats_of, nullable, accepts, loop_ends, step, IsExpanded};
+ghost use Rattle.cs_match.specs.Glushkov.{position_count, position_count_of, repeats, nullable, accepts, loop_ends, step, IsExpanded};
 ghost use Rattle.cs_match.specs.Entered.{entered, AreShifted};
-ghost use Rattle.cs_match.specs.Parts.{run, runs, options, shape_of, size_of, sizes_of};
-ghost use Rattle.cs_match.specs.Traversal.{IsNoted, accepted_from, accepted_in, all_of, any_of, entries_after, entries_in, final_from, loops_after, position_past, repeat_past};
+ghost use Rattle.cs_match.specs.Parts.{run, runs, options, shape_of, size_of};
+ghost use Rattle.cs_match.specs.Traversal.{IsNoted, accepted_from, accepted_in, entries_after, entries_in, final_from, loops_after, position_past, repeat_past};
 ghost use Rattle.cs_match.specs.Size.{nodes};
 ghost use Rattle.cs_match.specs.Work.{words, step_work};
 ghost use Rattle.cs_match.specs.Masks.{IsScratch};
-ghost use Rattle.cs_match.specs.declared.look_around.LookAround.{LookAround};
+ghost use Rattle.cs_match.specs.declared.state.LookAround.{LookAround};
 ghost use Rattle.cs_prefilter.specs.CountsAtMost.{CountsAtMost};
 
-use crate::look_around::LookAround;
-use crate::masks::Masks;
-use crate::parts::Fragment;
-use crate::position::Input;
+use crate::parts::{Fragment, Sequences};
+use crate::position::{Input, Masks};
 use crate::position_set::PositionSet;
 use crate::program::Program;
-use crate::sequences::Sequences;
+use crate::state::LookAround;
 use cs_prefilter::Steps;
 use cs_syntax::Node;
 use std::alloc::{AllocError, Global};
 
 /// The number of repeats of the tree.
-#[cycle(count_repeats)]
 pub(crate) fn count_repeats(node: &Node) -> usize
     requires { repeats (tree_of node.now) < 2 ^ 64 }
     ensures { result ≡ repeats (tree_of node.now) }
 {
     match node {
-        Node::Cat(parts) | Node::Alt(parts) => count_all_repeats(parts),
+        Node::Cat(parts) | Node::Alt(parts) => {
+            let mut n = 0;
+            for part in parts {
+                n += count_repeats(part);
+            }
+            n
+        }
         Node::Rep(x, _, _) => count_repeats(x) + 1,
         _ => 0,
     }
-}
-
-#[cycle(count_repeats)]
-fn count_all_repeats(parts: &[Node]) -> usize
-    requires { repeats_of (trees_of parts.now) < 2 ^ 64 }
-    ensures { result ≡ repeats_of (trees_of parts.now) }
-{
-    let mut n = 0;
-    for part in parts {
-        n += count_repeats(part);
-    }
-    n
 }
 
 /// How many positions and repeats a traversal has visited.
@@ -235,7 +225,6 @@ fn note_loops(
 }
 
 /// The ends of the tree at the current offset. Stores for each repeat whether its body is final.
-#[cycle(find_ends)]
 fn find_ends(
     part: &Fragment,
     positions: &PositionSet,
@@ -261,8 +250,20 @@ fn find_ends(
             steps.add(*count);
             end_options(*n, *count, positions, cursor)
         }
-        Fragment::Cat(parts) => find_ends_all(parts, positions, loops, here, cursor, steps),
-        Fragment::Alt(parts) => find_ends_some(parts, positions, loops, here, cursor, steps),
+        Fragment::Cat(parts) => {
+            let mut all = Ends::within(true);
+            for part in parts {
+                all = all.then(find_ends(part, positions, loops, here, cursor, steps));
+            }
+            all
+        }
+        Fragment::Alt(parts) => {
+            let mut some = Ends::within(false);
+            for part in parts {
+                some = some.or(find_ends(part, positions, loops, here, cursor, steps));
+            }
+            some
+        }
         Fragment::Rep(x, least) => {
             let own = cursor.repeat;
             cursor.repeat += 1;
@@ -486,61 +487,8 @@ fn enter_sequences(
     positions.meets(from, sequences.lasts())
 }
 
-#[cycle(find_ends)]
-fn find_ends_all(
-    parts: &[Fragment],
-    positions: &PositionSet,
-    loops: &mut [bool],
-    here: LookAround,
-    cursor: &mut Cursor,
-    steps: &mut Steps,
-) -> Ends
-    requires room { position_past (all_of parts.now) cursor.old ≤ length positions.now }
-    requires within { repeat_past (all_of parts.now) cursor.old ≤ length loops.old }
-    ensures accepting { result.accepting ≡ final_from (all_of parts.now) cursor.old positions.now here }
-    ensures nullable { result.nullable ≡ nullable (all_of parts.now) here }
-    ensures noted { loops.new ≡ loops_after (all_of parts.now) cursor.old positions.now here loops.old }
-    ensures position { cursor.new.position ≡ position_past (all_of parts.now) cursor.old }
-    ensures repeat { cursor.new.repeat ≡ repeat_past (all_of parts.now) cursor.old }
-    ensures cost { steps.new.count ≡ steps.old.count + sizes_of parts.now }
-{
-    let mut all = Ends::within(true);
-    for part in parts {
-        let ends = find_ends(part, positions, loops, here, cursor, steps);
-        all = all.then(ends);
-    }
-    all
-}
-
-#[cycle(find_ends)]
-fn find_ends_some(
-    parts: &[Fragment],
-    positions: &PositionSet,
-    loops: &mut [bool],
-    here: LookAround,
-    cursor: &mut Cursor,
-    steps: &mut Steps,
-) -> Ends
-    requires room { position_past (any_of parts.now) cursor.old ≤ length positions.now }
-    requires within { repeat_past (any_of parts.now) cursor.old ≤ length loops.old }
-    ensures accepting { result.accepting ≡ final_from (any_of parts.now) cursor.old positions.now here }
-    ensures nullable { result.nullable ≡ nullable (any_of parts.now) here }
-    ensures noted { loops.new ≡ loops_after (any_of parts.now) cursor.old positions.now here loops.old }
-    ensures position { cursor.new.position ≡ position_past (any_of parts.now) cursor.old }
-    ensures repeat { cursor.new.repeat ≡ repeat_past (any_of parts.now) cursor.old }
-    ensures cost { steps.new.count ≡ steps.old.count + sizes_of parts.now }
-{
-    let mut some = Ends::within(false);
-    for part in parts {
-        let ends = find_ends(part, positions, loops, here, cursor, steps);
-        some = some.or(ends);
-    }
-    some
-}
-
 /// Finds which positions of the part are entered, and returns whether the part accepts. `enter`
 /// says whether the part can begin here.
-#[cycle(advance)]
 #[tactic(auto, using(crate::proofs::PartLemmas::part_rules))]
 fn advance(
     part: &Fragment,
@@ -569,8 +517,20 @@ fn advance(
             steps.add(*count);
             enter_options(*n, *count, enter, at.positions, entries, cursor)
         }
-        Fragment::Cat(parts) => advance_all(parts, enter, at, entries, cursor, steps),
-        Fragment::Alt(parts) => advance_each(parts, enter, at, entries, cursor, steps),
+        Fragment::Cat(parts) => {
+            let mut accepting = enter;
+            for part in parts {
+                accepting = advance(part, accepting, at, entries, cursor, steps);
+            }
+            accepting
+        }
+        Fragment::Alt(parts) => {
+            let mut accepting = false;
+            for part in parts {
+                accepting |= advance(part, enter, at, entries, cursor, steps);
+            }
+            accepting
+        }
         Fragment::Rep(x, least) => {
             let again = at.loops[cursor.repeat];
             cursor.repeat += 1;
@@ -583,55 +543,4 @@ fn advance(
         Fragment::WordEdge => enter & at.here.edge,
         Fragment::NotWordEdge => enter & !at.here.edge,
     }
-}
-
-#[cycle(advance)]
-fn advance_all(
-    parts: &[Fragment],
-    enter: bool,
-    at: &Configuration<'_>,
-    entries: &mut PositionSet,
-    cursor: &mut Cursor,
-    steps: &mut Steps,
-) -> bool
-    requires room { position_past (all_of parts.now) cursor.old ≤ length at.now.positions.now }
-    requires shifted { AreShifted cursor.old.position at.now.positions.now entries.old }
-    requires noted { IsNoted (all_of parts.now) cursor.old at.now }
-    ensures accepting { result ≡ accepted_in (all_of parts.now) enter cursor.old at.now }
-    ensures entries { entries.new ≡ entries_in (all_of parts.now) enter cursor.old at.now entries.old }
-    ensures position { cursor.new.position ≡ position_past (all_of parts.now) cursor.old }
-    ensures repeat { cursor.new.repeat ≡ repeat_past (all_of parts.now) cursor.old }
-    ensures cost { steps.new.count ≡ steps.old.count + sizes_of parts.now }
-{
-    let mut accepting = enter;
-    for part in parts {
-        accepting = advance(part, accepting, at, entries, cursor, steps);
-    }
-    accepting
-}
-
-#[cycle(advance)]
-fn advance_each(
-    parts: &[Fragment],
-    enter: bool,
-    at: &Configuration<'_>,
-    entries: &mut PositionSet,
-    cursor: &mut Cursor,
-    steps: &mut Steps,
-) -> bool
-    requires room { position_past (any_of parts.now) cursor.old ≤ length at.now.positions.now }
-    requires shifted { AreShifted cursor.old.position at.now.positions.now entries.old }
-    requires noted { IsNoted (any_of parts.now) cursor.old at.now }
-    ensures accepting { result ≡ accepted_in (any_of parts.now) enter cursor.old at.now }
-    ensures entries { entries.new ≡ entries_in (any_of parts.now) enter cursor.old at.now entries.old }
-    ensures position { cursor.new.position ≡ position_past (any_of parts.now) cursor.old }
-    ensures repeat { cursor.new.repeat ≡ repeat_past (any_of parts.now) cursor.old }
-    ensures cost { steps.new.count ≡ steps.old.count + sizes_of parts.now }
-{
-    let mut out = false;
-    for part in parts {
-        let accepting = advance(part, enter, at, entries, cursor, steps);
-        out |= accepting;
-    }
-    out
 }

@@ -1,13 +1,19 @@
 // Lanes: four scans of chunks of a block at once, each of which lists the ends of the matching
-// lines of its chunk. A lane has one branch for a byte, which is taken at the end of a matching
-// line, and stays in the state unknown once it has met an unknown transition. The lanes know
-// nothing of patterns; `specs/Table.antt` says what the table has to tell.
-ghost use Rattle.std.specs.Prelude.{◌≡◌, ◌≤◌, ◌<◌, ◌+◌, ◌/◌, ℕ, List, [], ◌∷◌, ◌++◌, length, take};
-ghost use Rattle.cs_match.specs.Table.{HasRows};
+// lines of its chunk; the four lists become one. A lane has one branch for a byte, which is taken
+// at the end of a matching line, and stays in the state unknown where a transition is not known.
+ghost use Rattle.std.specs.Prelude.{◌≡◌, ◌≤◌, ◌<◌, ◌+◌, ◌/◌, ℕ, List, [], ◌∷◌, ◌++◌, length, take, ◌-◌, ◌*◌, drop, slice_index};
+ghost use Rattle.cs_match.specs.Table.{HasRows, next_number, unknown, table_start, IsRow};
 ghost use Rattle.cs_match.specs.MatchingEnds.{newlines_between};
-ghost use Rattle.cs_match.specs.Lanes.{IsLane, AreChunks, AreLanes};
+ghost use Rattle.cs_match.specs.Lanes.{IsLane, AreChunks, AreLanes, IsCut, IsChunk, AreCuts, AreListed};
+ghost use Rattle.cs_match.specs.ConsistentDfa.{StepsWithin};
+ghost use Rattle.cs_match.specs.Skipping.{AreWholeLines};
+ghost use Rattle.cs_match.specs.Deciding.{Decides};
+ghost use Rattle.cs_match.specs.Work.{byte_work};
+ghost use Rattle.cs_prefilter.specs.CountsAtMost.{CountsAtMost};
 
-use crate::table::Table;
+use crate::dfa::{LazyDfa, ListedLines};
+use crate::listing::line_end;
+use cs_prefilter::Steps;
 use std::ops::Range;
 
 /// A lane. The ends of the matching lines that it has seen are the first `count` of its list.
@@ -76,15 +82,138 @@ impl Lane {
     }
 }
 
+/// A transition table: a row for each state, with a transition for each class of bytes. The number
+/// of a state is the index of its row's first transition. Row 0 is that of *found*, the start state
+/// after a matching line. The next three are special: *unknown*, the transition is not computed
+/// yet; *match*, the line matches whatever follows in it; *dead*, it does not. The next is that of
+/// the start state.
+#[derive(Clone, Copy)]
+pub(crate) struct Table<'a> {
+    pub(crate) transitions: &'a [u16],
+    /// The class of each byte. The newline is alone in its class.
+    pub(crate) of: &'a [u8; 256],
+    /// The number of classes.
+    pub(crate) count: usize,
+}
+
+impl<'a> Table<'a> {
+    /// The number of the state found.
+    pub(crate) const FOUND: u16 = 0;
+
+    /// The number of the state unknown.
+    #[inline(always)]
+    pub(crate) fn unknown(self) -> u16
+        requires { HasRows self }
+        ensures { result ≡ unknown self.entry }
+    {
+        self.count as u16
+    }
+
+    /// The number of the start state.
+    #[inline(always)]
+    pub(crate) fn start(self) -> u16
+        requires { HasRows self }
+        ensures { result ≡ table_start self.entry }
+    {
+        (4 * self.count) as u16
+    }
+
+    /// The transition of a state over a byte. The column of the byte does not depend on the state,
+    /// so that a step waits for one load alone.
+    #[inline(always)]
+    pub(crate) fn next(self, number: u16, byte: u8) -> u16
+        requires rows { HasRows self }
+        requires row { IsRow self number }
+        ensures { result ≡ next_number self.entry number byte }
+    {
+        let column = &self.transitions[self.of[byte as usize] as usize..];
+        column[number as usize]
+    }
+
+    /// How many bytes of the text are read before their line is decided: those before which the
+    /// state is neither the match state nor the dead one.
+    #[cold]
+    #[inline(never)]
+    pub(crate) fn undecided(self, text: &[u8]) -> usize
+        requires { HasRows self }
+        ensures { result ≤ length text.now }
+    {
+        let mut number = self.start();
+        let mut count = 0;
+        for b in text {
+            if number <= self.unknown() || number >= self.start() {
+                count += 1;
+            }
+            number = self.next(number, *b);
+        }
+        count
+    }
+}
+
+/// The least size of a chunk in bytes, except at the end of a block.
+const LEAST: usize = 64;
+
+/// The end of the chunk that begins at `from`: after the first newline at least so many bytes on,
+/// or the end of the block. It has at most one line more than these bytes.
+pub(crate) fn cut(block: &[u8], from: usize, size: usize, steps: &mut Steps) -> usize
+    requires within { from ≤ length block.now }
+    requires whole { AreWholeLines (drop from block.now) }
+    ensures cut { IsCut block.now size from result }
+    ensures chunk { IsChunk block.now (size + 1) from result }
+    ensures moves { from < length block.now → from < result }
+    ensures work { CountsAtMost (result - from) steps.old steps.new }
+{
+    if block.len() - from <= size {
+        return block.len();
+    }
+    line_end(block, from + size, steps) + 1
+}
+
+/// Lists the ends of the matching lines of four chunks, at least of one line. A chunk with an
+/// unknown transition is scanned once more, by one lane.
+pub(crate) fn list_chunks(
+    dfa: &mut LazyDfa<'_>,
+    block: &[u8],
+    from: usize,
+    ends: &mut [usize],
+    steps: &mut Steps,
+) -> ListedLines
+    requires within { from ≤ length block.now }
+    requires whole { AreWholeLines (drop from block.now) }
+    requires room { 4 ≤ length ends.old }
+    ensures listed { AreListed (λ has_match. Decides has_match dfa.old.tree)
+        block.now from result.to result.count ends.new }
+    ensures moves { from < length block.now → from < result.to }
+    ensures work { StepsWithin ((byte_work dfa.old.tree + 2) * (result.to - from)) dfa.old dfa.new
+        steps.old steps.new }
+{
+    let quarter = ends.len() / 4;
+    let size = (quarter - 1).min((block.len() - from) / 4 + LEAST);
+    let cuts = four_chunks(block, from, size, steps);
+    steps.add(cuts[4] - from);
+    let table = dfa.table();
+    let unknown = table.unknown();
+    let lanes = four_lanes(table, block, cuts, ends);
+    let mut count = 0;
+    for k in 0..4usize {
+        let lane = lanes[k];
+        if lane.number == unknown {
+            let own = &mut ends[count..(k + 1) * quarter];
+            let listed = dfa.list_ends(block, cuts[k]..cuts[k + 1], own, steps);
+            count += listed.count;
+        } else {
+            steps.add(lane.count);
+            ends.copy_within(k * quarter..k * quarter + lane.count, count);
+            count += lane.count;
+        }
+    }
+    ListedLines { count, to: cuts[4] }
+}
+
 /// Scans the four chunks between these offsets. Each lane lists the ends of the matching lines of
 /// its chunk in its quarter of `ends`.
 #[inline(never)]
-pub(crate) fn four_lanes(
-    table: Table<'_>,
-    block: &[u8],
-    cuts: [usize; 5],
-    ends: &mut [usize],
-) -> [Lane; 4]
+fn four_lanes(table: Table<'_>, block: &[u8], cuts: [usize; 5], ends: &mut [usize]) -> [Lane; 4]
     requires rows { HasRows table }
     requires chunks { AreChunks block.now (length ends.old / 4) cuts }
     ensures lanes { AreLanes table.entry block.now cuts result ends.new }
@@ -115,4 +244,20 @@ pub(crate) fn four_lanes(
     c.scan(table, block, to_b + n..to_c, r);
     d.scan(table, block, to_c + n..to_d, s);
     [a, b, c, d]
+}
+
+/// Four chunks of the block, from `from` on. They are empty past the end of the block.
+fn four_chunks(block: &[u8], from: usize, size: usize, steps: &mut Steps) -> [usize; 5]
+    requires within { from ≤ length block.now }
+    requires whole { AreWholeLines (drop from block.now) }
+    ensures cuts { AreCuts block.now size from result }
+    ensures chunks { AreChunks block.now (size + 1) result }
+    ensures moves { from < length block.now → from < slice_index result 4 }
+    ensures work { CountsAtMost (slice_index result 4 - from) steps.old steps.new }
+{
+    let a = cut(block, from, size, steps);
+    let b = cut(block, a, size, steps);
+    let c = cut(block, b, size, steps);
+    let d = cut(block, c, size, steps);
+    [from, a, b, c, d]
 }

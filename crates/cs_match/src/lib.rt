@@ -64,28 +64,22 @@
 
 mod byte_classes;
 mod cached_states;
-mod chunks;
 mod dfa;
 mod expand;
 mod glushkov;
 mod lanes;
 pub mod laws;
 mod listing;
-mod look_around;
-mod masks;
 mod matcher;
 mod pacing;
 mod parts;
 mod position;
 mod position_set;
 mod program;
-mod sequences;
-mod skipping;
 mod spans;
 mod state;
-mod table;
 
+pub use listing::{line_to, whole_lines_len};
 pub use matcher::{Cache, Line, Matcher};
 pub use program::Program;
-pub use skipping::{line_to, whole_lines_len};
 pub use spans::{Finder, ListedSpans, Pass, Span, Wanted};

@@ -14,9 +14,9 @@ mod cache;
 
 use crate::dfa::LazyDfa;
 use crate::listing;
+use crate::listing::line_to;
 use crate::pacing::Pacing;
 use crate::program::Program;
-use crate::skipping::line_to;
 pub use cache::Cache;
 use cs_prefilter::Steps;
 use std::alloc::{AllocError, Global};
@@ -72,7 +72,7 @@ impl<'a> Matcher<'a> {
         let ends = vec![in alloc; 0usize; LIST]?;
         Ok(Matcher {
             dfa,
-            pacing: Pacing::NEW,
+            pacing: Pacing::default(),
             ends,
             listed: 0,
             steps: Steps::new(),

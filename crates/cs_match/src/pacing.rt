@@ -1,8 +1,7 @@
 // Whether the prefilter is worth its cost, and one lane faster than four. No contract cites it.
 
 use crate::dfa::ListedLines;
-use crate::skipping::Candidate;
-use cs_prefilter::Listed;
+use crate::listing::Candidate;
 
 /// Below this distance between candidates without a match the DFA alone is faster than a prefilter.
 const NEAR: usize = 256;
@@ -19,18 +18,13 @@ const LONGEST: usize = 64;
 
 /// Exponential backoff: the number of parts before something is tried again, 1, 2, 4 and so on, as
 /// long as the answer stays.
-#[derive(Clone, Copy, Drop)]
+#[derive(Clone, Copy, Default, Drop)]
 pub(crate) struct Backoff {
     remaining: usize,
     last: usize,
 }
 
 impl Backoff {
-    const NEW: Backoff = Backoff {
-        remaining: 0,
-        last: 0,
-    };
-
     /// Whether it is over, so that this part is a trial. Counts the part.
     pub(crate) fn is_over(&mut self) -> bool {
         let is_over = self.remaining == 0;
@@ -40,13 +34,13 @@ impl Backoff {
 
     /// Starts a backoff, twice as long as the last one, up to `LONGEST`.
     fn begin(&mut self) {
-        self.last = self.last.saturating_mul(2).max(1).min(LONGEST);
+        self.last = self.last.saturating_mul(2).clamp(1, LONGEST);
         self.remaining = self.last;
     }
 }
 
 /// Counters that guess what is faster: the prefilter or the DFA alone, and one lane or four.
-#[derive(Drop)]
+#[derive(Default, Drop)]
 pub(crate) struct Pacing {
     /// The prefilter is used for a part of a block if this is over.
     pub(crate) prefilter: Backoff,
@@ -59,13 +53,6 @@ pub(crate) struct Pacing {
 }
 
 impl Pacing {
-    pub(crate) const NEW: Pacing = Pacing {
-        prefilter: Backoff::NEW,
-        wasted: 0,
-        sampling: Backoff::NEW,
-        one_lane: false,
-    };
-
     /// Notes how many bytes of a sample are read before their lines are decided.
     pub(crate) fn note_sample(&mut self, undecided: usize, len: usize) {
         let early = undecided <= len / EARLY;
@@ -77,30 +64,18 @@ impl Pacing {
     }
 
     /// Notes how far a candidate was, what others before it cost, and whether its line is listed.
-    pub(crate) fn note_candidate(
-        &mut self,
-        from: usize,
-        candidate: Candidate,
-        listed: ListedLines,
-    ) {
+    pub(crate) fn note_candidate(&mut self, from: usize, found: Candidate, listed: ListedLines) {
         let passed = listed.to.saturating_sub(from);
-        let found = listed.count > 0;
-        let skipped = match candidate.line {
-            Some(line) if found => line.start.saturating_sub(from),
-            _ => passed,
+        let (skipped, tested) = match found.line {
+            Some(line) if listed.count > 0 => (line.start.saturating_sub(from), 0),
+            _ => (passed, NEAR),
         };
-        let tested = if found { 0 } else { NEAR };
-        self.note(skipped >= NEAR, candidate.wasted, passed, tested);
+        self.note(skipped >= NEAR, found.wasted, passed, tested);
     }
 
-    /// Notes how far a list by words went, and what candidates that are no words cost.
-    pub(crate) fn note_list(&mut self, from: usize, words: Listed) {
-        self.note(true, words.wasted, words.to.saturating_sub(from), 0);
-    }
-
-    /// Notes whether a candidate was far, what those before it cost, and what its test did. The DFA
-    /// would have read each byte that was passed.
-    fn note(&mut self, is_far: bool, wasted: usize, passed: usize, tested: usize) {
+    /// Notes whether a candidate, or a list by words, was far, what those before it cost that are
+    /// no words, and what its test did. The DFA would have read each byte that was passed.
+    pub(crate) fn note(&mut self, is_far: bool, wasted: usize, passed: usize, tested: usize) {
         let wasted = wasted.saturating_sub(passed);
         if is_far && wasted == 0 {
             self.wasted = 0;

@@ -1,6 +1,7 @@
 // The parts of a program: its tree without the sets. A run of positions is one part, and so is an
-// alternation of runs, so that a traversal visits it once.
-ghost use Rattle.std.specs.Prelude.{◌≡◌, ◌+◌, ◌<◌, ◌≤◌, ◌^◌, IfOk, IfSome};
+// alternation of runs, such as `if|for|while`: it is entered and left by masks of its first and
+// last positions, as in Shift-And (Baeza-Yates, Gonnet).
+ghost use Rattle.std.specs.Prelude.{◌≡◌, ◌+◌, ◌<◌, ◌≤◌, ◌^◌, IfOk, IfSome, ◌++◌, OnOk, false, replicate};
 ghost use Rattle.cs_syntax.specs.Matching.{Trees, cat, alt, more};
 ghost use Rattle.cs_syntax.specs.TreeList.{append};
 ghost use Rattle.cs_syntax.specs.Node.{tree_of};
@@ -8,10 +9,12 @@ ghost use Rattle.cs_syntax.specs.NodeList.{trees_of};
 ghost use Rattle.cs_match.specs.Glushkov.{position_count, position_count_of};
 ghost use Rattle.cs_match.specs.Parts.{runs, shape_of, shapes_of, size_of, sizes_of, HaveSameShape};
 ghost use Rattle.cs_match.specs.Size.{nodes, nodes_of};
+ghost use Rattle.cs_match.specs.Sequences.{firsts_of, lasts_of};
 
-use crate::sequences::Sequences;
+use crate::position_set::PositionSet;
 use cs_syntax::Node;
 use std::alloc::{AllocError, Global};
+use std::marker::Model;
 
 /// A part of a program.
 #[derive(Drop)]
@@ -32,6 +35,63 @@ pub(crate) enum Fragment {
     LineEnd,
     WordEdge,
     NotWordEdge,
+}
+
+/// Sequences of positions. Contracts see how many positions each has after its first.
+#[derive(Drop)]
+pub(crate) struct Sequences {
+    following: Vec<usize>,
+    /// The first position of each sequence.
+    firsts: PositionSet,
+    /// The last position of each sequence.
+    lasts: PositionSet,
+}
+
+impl Model for Sequences {
+    ghost use Rattle.std.specs.Prelude.{ℕ, List, ◌≡◌};
+    ghost use Rattle.cs_match.specs.Sequences.{firsts_of, lasts_of};
+
+    ghost Value = { List ℕ };
+
+    ghost view = { λ sequences. sequences.following.items };
+
+    ghost invariant = { λ sequences. (sequences.firsts ≡ firsts_of sequences.following.items)
+        × (sequences.lasts ≡ lasts_of sequences.following.items) };
+}
+
+impl Sequences {
+    /// The sequences with so many positions after the first of each.
+    pub(crate) fn new(alloc: Global, following: Vec<usize>) -> Result<Sequences, AllocError>
+        ensures { IfOk result (λ sequences. sequences ≡ following.items) }
+    {
+        let mut firsts = Vec::new(alloc);
+        let mut lasts = Vec::new(alloc);
+        for n in following.iter() {
+            firsts.push(true)?;
+            add_others(&mut firsts, *n)?;
+            add_others(&mut lasts, *n)?;
+            lasts.push(true)?;
+        }
+        Ok(Sequences {
+            firsts: PositionSet::of(alloc, &firsts)?,
+            lasts: PositionSet::of(alloc, &lasts)?,
+            following,
+        })
+    }
+
+    /// The first position of each sequence.
+    pub(crate) fn firsts(&self) -> &PositionSet
+        ensures { result.now ≡ firsts_of self.now }
+    {
+        &self.firsts
+    }
+
+    /// The last position of each sequence.
+    pub(crate) fn lasts(&self) -> &PositionSet
+        ensures { result.now ≡ lasts_of self.now }
+    {
+        &self.lasts
+    }
 }
 
 /// The parts of an expanded tree.
@@ -148,4 +208,14 @@ fn runs_of(alloc: Global, parts: &[Fragment]) -> Result<Option<Vec<usize>>, Allo
         }
     }
     Ok(Some(following))
+}
+
+/// Adds so many positions that are not in the set.
+fn add_others(flags: &mut Vec<bool>, n: usize) -> Result<(), AllocError>
+    ensures { OnOk result (flags.new.items ≡ flags.old.items ++ replicate n false) }
+{
+    for k in 0..n {
+        flags.push(false)?;
+    }
+    Ok(())
 }

@@ -203,14 +203,12 @@ impl PositionSet {
 
     /// A hash of the set and of the seed.
     pub(crate) fn hash(&self, seed: u64) -> u64 {
-        let mut mixed = seed;
-        for word in &self.words {
-            // The high bits of a product depend on all bits of its factors: they become the low.
-            mixed = (mixed ^ *word)
+        // The high bits of a product depend on all bits of its factors: they become the low.
+        self.words.iter().fold(seed, |mixed, word| {
+            (mixed ^ *word)
                 .wrapping_mul(0x9e37_79b9_7f4a_7c15)
-                .swap_bytes();
-        }
-        mixed
+                .swap_bytes()
+        })
     }
 }
 

@@ -1,5 +1,5 @@
 // Programs: compiled patterns.
-ghost use Rattle.std.specs.Prelude.{◌≡◌, ◌≤◌, ◌<◌, ◌^◌, IfOk, IfSome, IsTrue, length, true};
+ghost use Rattle.std.specs.Prelude.{◌≡◌, ◌≤◌, ◌<◌, IfOk, IfSome, IsTrue, length, true};
 ghost use Rattle.cs_syntax.specs.Node.{tree_of};
 ghost use Rattle.cs_syntax.specs.Cuts.{AreCutsOf};
 ghost use Rattle.cs_match.specs.SameLines.{MatchSameLines, MatchSameSpans};
@@ -16,10 +16,10 @@ ghost use Rattle.cs_match.specs.Size.{nodes, FitsWeight};
 use crate::byte_classes::ByteClasses;
 use crate::expand::expand;
 use crate::glushkov::count_repeats;
-use crate::look_around::{LookBehind, is_anchored, look_behind};
 use crate::parts::{Fragment, part_of};
 use crate::position::{Position, add_positions};
 use crate::spans::is_one_word;
+use crate::state::{LookBehind, is_anchored, look_behind};
 use cs_prefilter::Prefilter;
 use cs_syntax::{CharStep, Cuts, Node, Pattern, Unfinished};
 use std::alloc::{AllocError, Global};
@@ -97,12 +97,11 @@ impl Program {
         ensures small { IfOk result (λ program. FitsWeight program pattern.now) }
     {
         let root = expand(alloc, pattern.tree())?;
-        let Tables {
-            part,
-            positions,
-            cuts,
-            prefilter,
-        } = Tables::of_tree(alloc, &root)?;
+        let mut positions = Vec::new(alloc);
+        add_positions(alloc, &root, &mut positions)?;
+        let part = part_of(alloc, &root)?;
+        let cuts = Cuts::of_tree(alloc, &root)?;
+        let prefilter = Prefilter::of(alloc, &root)?;
         let repeats = count_repeats(&root);
         let look_behind = look_behind(&root);
         let is_anchored = is_anchored(&root);
@@ -191,40 +190,5 @@ impl Program {
         ensures { IfSome result (λ prefilter. IsPrefilterOf self.now prefilter.now) }
     {
         self.prefilter.as_ref()
-    }
-}
-
-/// The allocated parts of a program besides its tree.
-#[derive(Drop)]
-struct Tables {
-    part: Fragment,
-    positions: Vec<Position>,
-    cuts: Cuts,
-    prefilter: Option<Prefilter>,
-}
-
-impl Tables {
-    /// The parts for an expanded tree.
-    fn of_tree(alloc: Global, root: &Node) -> Result<Tables, AllocError>
-        requires { position_count (tree_of root.now) < 2 ^ 64 }
-        ensures shape { IfOk result (λ tables. HaveSameShape (tree_of root.now) (shape_of tables.part)) }
-        ensures size { IfOk result (λ tables. size_of tables.part ≤ nodes (tree_of root.now)) }
-        ensures positions { IfOk result (λ tables.
-            tables.positions.items ≡ position_list (tree_of root.now)) }
-        ensures cuts { IfOk result (λ tables. AreCutsOf (tree_of root.now) tables.cuts) }
-        ensures prefilter { IfOk result (λ tables.
-            IfSome tables.prefilter (IsPrefilterOf (tree_of root.now))) }
-    {
-        let mut positions = Vec::new(alloc);
-        add_positions(alloc, root, &mut positions)?;
-        let cuts = Cuts::of_tree(alloc, root)?;
-        let part = part_of(alloc, root)?;
-        let prefilter = Prefilter::of(alloc, root)?;
-        Ok(Tables {
-            part,
-            positions,
-            cuts,
-            prefilter,
-        })
     }
 }

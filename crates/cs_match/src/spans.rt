@@ -7,7 +7,6 @@ ghost use Rattle.cs_match.specs.Span.{IsFirstOf, HasNoMatchOf, IsFirstSpan, HasN
 ghost use Rattle.cs_match.specs.SpanList.{IsListing, IsUsedUp};
 ghost use Rattle.cs_match.specs.SpanWork.{SearchesWithin, ListsWithin};
 
-mod around;
 mod pass;
 mod word;
 

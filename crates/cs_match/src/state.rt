@@ -1,6 +1,6 @@
-// States of the DFA.
-ghost use Rattle.std.specs.Prelude.{◌≡◌, ◌+◌, ◌*◌, ◌↔◌, IfOk, IsTrue, length, replicate, true, false};
-ghost use Rattle.cs_syntax.specs.Matching.{HasMatch};
+// States of the DFA, and look-around at an offset of a line.
+ghost use Rattle.std.specs.Prelude.{◌≡◌, ◌+◌, ◌*◌, ◌↔◌, IfOk, IsTrue, length, replicate, true, false, ◌&&◌};
+ghost use Rattle.cs_syntax.specs.Matching.{HasMatch, is_word};
 ghost use Rattle.cs_match.specs.Glushkov.{position_count, accepts, cuts_of, IsExpanded};
 ghost use Rattle.cs_match.specs.Digits.{IsBlock};
 ghost use Rattle.cs_match.specs.Masks.{IsScratch};
@@ -8,14 +8,16 @@ ghost use Rattle.cs_match.specs.Size.{nodes};
 ghost use Rattle.cs_match.specs.Work.{words, step_work};
 ghost use Rattle.cs_match.specs.States.{start, ahead, look_at_end, next_state, successor, accepts_before};
 ghost use Rattle.cs_prefilter.specs.CountsAtMost.{CountsAtMost};
+ghost use Rattle.cs_syntax.specs.Node.{tree_of};
+ghost use Rattle.cs_match.specs.LookBehind.{look_behind, either};
+ghost use Rattle.cs_match.specs.Anchored.{is_anchored};
 
 use crate::glushkov::{Offset, Scratch, enter, step_over};
-use crate::look_around::LookAround;
 use crate::position::Input;
 use crate::position_set::PositionSet;
 use crate::program::Program;
 use cs_prefilter::Steps;
-use cs_syntax::Unfinished;
+use cs_syntax::{Node, Unfinished};
 use std::alloc::{AllocError, Global};
 
 /// A DFA state is a set of positions, two look-behind bits and the unfinished character.
@@ -23,6 +25,12 @@ use std::alloc::{AllocError, Global};
 pub(crate) struct State {
     /// The positions that can match the last byte before the offset.
     pub(crate) positions: PositionSet,
+    pub(crate) behind: Behind,
+}
+
+/// What a state keeps of the bytes before the offset, besides its positions.
+#[derive(Clone, Copy, PartialEq, Drop)]
+pub(crate) struct Behind {
     /// The offset is the start of the line.
     pub(crate) first: bool,
     /// The byte before the offset is a word character.
@@ -31,18 +39,27 @@ pub(crate) struct State {
     pub(crate) unfinished: Unfinished,
 }
 
+impl Behind {
+    /// At the start of a line of the program.
+    fn start(program: &Program) -> Behind
+        ensures { result ≡ (start program.now).behind }
+    {
+        Behind {
+            first: program.look_behind().first,
+            word: false,
+            unfinished: Unfinished::none(),
+        }
+    }
+}
+
 impl State {
     /// The start state of the program.
     pub(crate) fn new(alloc: Global, program: &Program) -> Result<State, AllocError>
         ensures { IfOk result (λ state. state ≡ start program.now) }
     {
         let positions = PositionSet::none(alloc, program.positions().len())?;
-        Ok(State {
-            positions,
-            first: program.look_behind().first,
-            word: false,
-            unfinished: Unfinished::none(),
-        })
+        let behind = Behind::start(program);
+        Ok(State { positions, behind })
     }
 
     /// Makes this the start state.
@@ -53,9 +70,7 @@ impl State {
     {
         steps.add(self.positions.len().div_ceil(64));
         self.positions.clear();
-        self.first = program.look_behind().first;
-        self.word = false;
-        self.unfinished = Unfinished::none();
+        self.behind = Behind::start(program);
     }
 
     /// Whether the state has no positions, and no character is unfinished.
@@ -64,13 +79,14 @@ impl State {
         ensures cost { steps.new.count ≡ steps.old.count + words (length self.now.positions) }
     {
         steps.add(self.positions.len().div_ceil(64));
-        self.unfinished == Unfinished::none() && !self.positions.meets(0, &self.positions)
+        self.behind.unfinished == Unfinished::none() && !self.positions.meets(0, &self.positions)
     }
 
     /// A hash of the state.
     pub(crate) fn hash(&self) -> u64 {
-        let bits = u64::from(self.first) << 1 | u64::from(self.word);
-        let char = u64::from(self.unfinished.low) << 2 | u64::from(self.unfinished.needed);
+        let behind = self.behind;
+        let bits = u64::from(behind.first) << 1 | u64::from(behind.word);
+        let char = u64::from(behind.unfinished.low) << 2 | u64::from(behind.unfinished.needed);
         self.positions.hash(char << 2 | bits)
     }
 
@@ -111,7 +127,7 @@ impl State {
     ) -> bool
         requires one_each { length self.old.positions ≡ position_count program.now }
         requires scratch { IsScratch program.now scratch.old }
-        requires block { IsBlock (cuts_of program.now) self.old.unfinished }
+        requires block { IsBlock (cuts_of program.now) self.old.behind.unfinished }
         ensures accepting { result ≡ accepts_before program.now self.old byte }
         ensures moved { self.new ≡ successor program.now self.old byte }
         ensures scratch { IsScratch program.now scratch.new }
@@ -145,20 +161,22 @@ impl State {
         let bits = program.look_behind();
         let is_word = bits.is_word(byte);
         let here = LookAround {
-            first: self.first,
+            first: self.behind.first,
             last: false,
-            edge: self.word ^ is_word,
+            edge: self.behind.word ^ is_word,
         };
         let at = Offset {
             may_begin: true,
             here,
         };
-        let char = program.char_step(self.unfinished, byte);
+        let char = program.char_step(self.behind.unfinished, byte);
         let input = Input { byte, char };
         let accepting = step_over(program, at, &mut self.positions, scratch, input, steps);
-        self.first = false;
-        self.word = is_word;
-        self.unfinished = char.unfinished();
+        self.behind = Behind {
+            first: false,
+            word: is_word,
+            unfinished: char.unfinished(),
+        };
         accepting
     }
 
@@ -173,9 +191,9 @@ impl State {
             steps.old steps.new }
     {
         let here = LookAround {
-            first: self.first,
+            first: self.behind.first,
             last: true,
-            edge: self.word,
+            edge: self.behind.word,
         };
         let at = Offset {
             may_begin: true,
@@ -184,5 +202,96 @@ impl State {
         let accepting = enter(program, at, &self.positions, scratch, steps);
         self.begin(program, steps);
         accepting
+    }
+}
+
+/// What the assertions `^`, `$`, `\b` and `\B` test at an offset of a line.
+#[derive(Clone, Copy, Drop)]
+pub(crate) struct LookAround {
+    /// The offset is the start of the line.
+    pub(crate) first: bool,
+    /// The offset is the end of the line.
+    pub(crate) last: bool,
+    /// The offset is a word boundary.
+    pub(crate) edge: bool,
+}
+
+/// What a tree reads of the bytes before an offset.
+#[derive(Clone, Copy, Drop)]
+pub(crate) struct LookBehind {
+    /// Whether the offset is the start of the line, for `^`.
+    pub(crate) first: bool,
+    /// Whether the byte before the offset is a word byte, for `\b` and `\B`.
+    pub(crate) word: bool,
+    /// Which character is unfinished, for sets of characters.
+    pub(crate) char: bool,
+}
+
+impl LookBehind {
+    const NONE: LookBehind = LookBehind {
+        first: false,
+        word: false,
+        char: false,
+    };
+
+    /// The bits that one of two trees reads.
+    fn or(self, other: LookBehind) -> LookBehind
+        ensures { result ≡ either self other }
+    {
+        LookBehind {
+            first: self.first | other.first,
+            word: self.word | other.word,
+            char: self.char | other.char,
+        }
+    }
+
+    /// Whether the byte is an ASCII word character, if there is a bit for them.
+    pub(crate) fn is_word(self, byte: u8) -> bool
+        ensures { result ≡ (is_word byte && self.word) }
+    {
+        (byte.is_ascii_alphanumeric() | (byte == b'_')) & self.word
+    }
+}
+
+/// The look-behind bits that the tree reads.
+pub(crate) fn look_behind(node: &Node) -> LookBehind
+    ensures { result ≡ look_behind (tree_of node.now) }
+{
+    let mut bits = LookBehind::NONE;
+    match node {
+        Node::Cat(parts) | Node::Alt(parts) => {
+            for part in parts {
+                bits = bits.or(look_behind(part));
+            }
+        }
+        Node::Rep(x, _, _) => bits = look_behind(x),
+        Node::Chars(_) => bits.char = true,
+        Node::LineStart => bits.first = true,
+        Node::WordEdge | Node::NotWordEdge => bits.word = true,
+        _ => {}
+    }
+    bits
+}
+
+/// Whether each match begins at the start of the line.
+pub(crate) fn is_anchored(node: &Node) -> bool
+    ensures { result ≡ is_anchored (tree_of node.now) }
+{
+    match node {
+        Node::Cat(parts) => match &parts[..] {
+            [first, ..] => is_anchored(first),
+            [] => false,
+        },
+        Node::Alt(parts) => {
+            for part in parts {
+                if !is_anchored(part) {
+                    return false;
+                }
+            }
+            true
+        }
+        Node::Rep(x, least, _) => *least > 0 && is_anchored(x),
+        Node::LineStart => true,
+        _ => false,
     }
 }

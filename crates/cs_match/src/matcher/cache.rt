@@ -35,18 +35,13 @@ impl<'a> Matcher<'a> {
         requires cache { IsCacheOf program.now cache }
         ensures tree { result.tree ≡ program.now }
     {
-        let Cache {
-            states,
-            pacing,
-            ends,
-            steps,
-        } = cache;
+        let states = cache.states;
         Matcher {
             dfa: LazyDfa { program, states },
-            pacing,
-            ends,
+            pacing: cache.pacing,
+            ends: cache.ends,
             listed: 0,
-            steps,
+            steps: cache.steps,
         }
     }
 

@@ -9,8 +9,7 @@ ghost use Rattle.cs_match.specs.Span.{IsFirstOf, HasNoMatchOf, IsWholeWord};
 ghost use Rattle.cs_match.specs.SpanWork.{pass_bytes};
 
 use super::Span;
-use super::around::{is_word_after, is_word_before};
-use super::pass::{Pass, Wanted};
+use super::pass::{Pass, Wanted, is_word_after, is_word_before};
 use crate::position::Position;
 use crate::program::Program;
 use cs_syntax::Node;

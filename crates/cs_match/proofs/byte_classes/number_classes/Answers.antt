@@ -1,9 +1,9 @@
 use Rattle.std.proofs.Common.{◌≡◌, ◌⊎◌, ◌+◌, ◌-◌, ◌≤◌, ◌<◌, ◌∙◌, ℕ, false, inl, inr, length, set, get_or, sym, ap, arith, length-set, get_or-set_same, get_or-set_other}
-use Rattle.std.proofs.lemmas.Bool.{cases_lt}
+use Rattle.std.proofs.lemmas.Bool.{cases_lt, ne_eqb}
 use Rattle.cs_match.specs.ByteClasses.{begins_at}
 use Rattle.cs_match.proofs.ByteClassLemmas.{numbered_on}
 use Rattle.cs_match.proofs.byte_classes.number_classes.Goals as goal
-use Rattle.cs_match.proofs.byte_classes.number_classes.Goals.{then-is_begin, else-is_begin}
+use Rattle.cs_match.proofs.byte_classes.number_classes.Goals.{then-begins-byte-eq1, else-begins-byte-eq1}
 
 pub loop-byte-preserved : goal.loop-byte-preserved
 loop-byte-preserved c =
@@ -12,13 +12,13 @@ loop-byte-preserved c =
     let old = c.loop-byte.of in
     let byte = c.loop-byte.byte in
     let last = c.loop-byte.last in
-    let now = c.if-is_begin.last in
+    let now = c.if-begins-byte-eq1.last in
     let new = set old byte now in
     let size = length-set old byte now in
     let step : (now ≡ last + 1) ⊎ ((now ≡ last) × (begins_at begins byte ≡ false)) =
-    elim c.if-is_begin.branch [
-      | then-is_begin w ↦ inl w.last-is
-      | else-is_begin w ↦ inr (w.last-is, sym c.is_begin.ensures ∙ w.if-is_begin.false)
+    elim c.if-begins-byte-eq1.branch [
+      | then-begins-byte-eq1 w ↦ inl w.last-is
+      | else-begins-byte-eq1 w ↦ inr (w.last-is, ne_eqb (get_or begins byte 0) 1 w.if-begins-byte-eq1.false)
     ] in
     let rises : last ≤ now = elim step [ inl more ↦ omega (arith, more) | inr same ↦ omega (arith, same.0) ] in
     let bound : now ≤ byte = elim step [ inl more ↦ omega (arith, more, i.low) | inr same ↦ omega (arith, same.0, i.low) ] in
@@ -27,12 +27,12 @@ loop-byte-preserved c =
     let last_is : get_or new byte 0 ≡ now = get_or-set_same old byte now 0 within in
     let kept : (b : ℕ) → b < byte → get_or new b 0 ≡ get_or old b 0 = λ b lt. get_or-set_other old byte b now 0 (λ e. omega (arith, e, lt)) in
     let next : byte + 1 - 1 ≡ byte = omega arith in
-    let first = c.if-is_begin.first in
+    let first = c.if-begins-byte-eq1.first in
     let firsts = set c.loop-byte.firsts byte first in
     let first_is : (first < byte + 1) × (get_or new first 0 ≡ now) =
-    elim c.if-is_begin.branch [
-      | then-is_begin w ↦ (omega (arith, w.first-is), ap (λ (k : ℕ). get_or new k 0) w.first-is ∙ last_is)
-      | else-is_begin w ↦ (
+    elim c.if-begins-byte-eq1.branch [
+      | then-begins-byte-eq1 w ↦ (omega (arith, w.first-is), ap (λ (k : ℕ). get_or new k 0) w.first-is ∙ last_is)
+      | else-begins-byte-eq1 w ↦ (
         omega (arith, w.first-is, i.first.0),
         ap (λ (k : ℕ). get_or new k 0) w.first-is ∙ kept c.loop-byte.first i.first.0 ∙ i.first.1 ∙ sym w.last-is,
       )

@@ -10,105 +10,105 @@ use Rattle.cs_match.proofs.AlternationLemmas.{repeats_runs, loop_ends_runs}
 use Rattle.cs_match.proofs.TraversalLemmas.{repeats_options, loop_ends_options, rep_noted, accepted_all, accepted_some, noted_more}
 use Rattle.cs_match.proofs.glushkov.+find_ends.Goals as goal
 
-pub find_ends-returns-in-Rep-clause-noted : goal.find_ends-returns-in-Rep-clause-noted
-find_ends-returns-in-Rep-clause-noted t c =
-    let x = shape_of c.deref-in-Rep.result.now in
+pub returns-in-Rep-clause-noted : goal.returns-in-Rep-clause-noted
+returns-in-Rep-clause-noted t c =
+    let x = shape_of c.deref.result.now in
     let e : shape_of c.args.part.now ≡ rep x c.in-Rep.least None =
-    ap shape_of c.in-Rep.is ∙ shape_of-Rep _ _ ∙ ap (λ n. rep (shape_of n) c.in-Rep.least None) (sym c.deref-in-Rep.ensures) in
+    ap shape_of c.in-Rep.is ∙ shape_of-Rep _ _ ∙ ap (λ n. rep (shape_of n) c.in-Rep.least None) (sym c.deref.ensures) in
     let ms = drop c.args.cursor.now.position c.args.positions.now in
     rw (e, c.find_ends-ends.ensures.accepting)
     (rep_noted c.args.loops.now c.find_ends-ends.new.loops c.args.cursor.now.repeat
     (is_final x ms c.args.here) (loop_ends x ms c.args.here) c.find_ends-ends.ensures.noted)
 
-pub find_ends_all-loop-part-preserved : goal.find_ends_all-loop-part-preserved
-find_ends_all-loop-part-preserved t c =
-    let more = shapes_from c.args.parts.now c.loop-part.part-index c.part-item.result c.loop-part-test.true c.part-item.is in
-    let larger = sizes_from c.args.parts.now c.loop-part.part-index c.part-item.result c.loop-part-test.true c.part-item.is in
+pub loop-part-preserved : goal.loop-part-preserved
+loop-part-preserved t c =
+    let more = shapes_from c.deref-part-items.result.now c.loop-part.part-index c.part-item.result c.loop-part-test.true c.part-item.is in
+    let larger = sizes_from c.deref-part-items.result.now c.loop-part.part-index c.part-item.result c.loop-part-test.true c.part-item.is in
     let i = c.loop-part.invariant in
     let t = shape_of c.part-item.result in
-    let ts = shapes_of (drop (c.loop-part.part-index + 1) c.args.parts.now) in
+    let ts = shapes_of (drop (c.loop-part.part-index + 1) c.deref-part-items.result.now) in
     let position = rw more at i.position in
     let repeat = rw more at i.repeat in
-    let next = c.find_ends-ends.ensures.position in
+    let next = c.find_ends.ensures.position in
     record {
-      cost = omega (arith, c.find_ends-ends.ensures.cost, i.cost, larger);
+      cost = omega (arith, c.find_ends.ensures.cost, i.cost, larger);
       position = omega arith;
       repeat = omega arith;
-      accepting = rw (c.then-all.ensures.accepting, c.find_ends-ends.ensures.accepting, c.find_ends-ends.ensures.nullable)
+      accepting = rw (c.then-all.ensures.accepting, c.find_ends.ensures.accepting, c.find_ends.ensures.nullable)
           (accepted_all t ts c.args.positions.now c.args.here c.loop-part.cursor.position _ next
           c.loop-part.all.accepting _ (rw more at i.accepting));
-      nullable = rw (c.then-all.ensures.nullable, c.find_ends-ends.ensures.nullable)
+      nullable = rw (c.then-all.ensures.nullable, c.find_ends.ensures.nullable)
           (and_assoc c.loop-part.all.nullable (nullable t c.args.here) (nullable_all ts c.args.here) ∙ rw more at i.nullable);
       noted = noted_more t ts c.args.positions.now c.args.here c.loop-part.cursor.position _ next c.loop-part.loops
-          c.find_ends-ends.new.loops _ c.loop-part.cursor.repeat _
-          (rw more at i.noted) c.find_ends-ends.ensures.repeat c.find_ends-ends.ensures.noted;
+          c.find_ends.new.loops _ c.loop-part.cursor.repeat _
+          (rw more at i.noted) c.find_ends.ensures.repeat c.find_ends.ensures.noted;
     }
 
-pub find_ends_some-loop-part-preserved : goal.find_ends_some-loop-part-preserved
-find_ends_some-loop-part-preserved t c =
-    let more = shapes_from c.args.parts.now c.loop-part.part-index c.part-item.result c.loop-part-test.true c.part-item.is in
-    let larger = sizes_from c.args.parts.now c.loop-part.part-index c.part-item.result c.loop-part-test.true c.part-item.is in
-    let i = c.loop-part.invariant in
-    let t = shape_of c.part-item.result in
-    let ts = shapes_of (drop (c.loop-part.part-index + 1) c.args.parts.now) in
+pub loop-part-2-preserved : goal.loop-part-2-preserved
+loop-part-2-preserved t c =
+    let more = shapes_from c.deref-part-items-in-Alt.result.now c.loop-part-2.part-index c.part-item-in-loop-part-2.result c.loop-part-2-test.true c.part-item-in-loop-part-2.is in
+    let larger = sizes_from c.deref-part-items-in-Alt.result.now c.loop-part-2.part-index c.part-item-in-loop-part-2.result c.loop-part-2-test.true c.part-item-in-loop-part-2.is in
+    let i = c.loop-part-2.invariant in
+    let t = shape_of c.part-item-in-loop-part-2.result in
+    let ts = shapes_of (drop (c.loop-part-2.part-index + 1) c.deref-part-items-in-Alt.result.now) in
     let position = rw more at i.position in
     let repeat = rw more at i.repeat in
-    let next = c.find_ends-ends.ensures.position in
+    let next = c.find_ends-in-loop-part-2.ensures.position in
     record {
-      cost = omega (arith, c.find_ends-ends.ensures.cost, i.cost, larger);
+      cost = omega (arith, c.find_ends-in-loop-part-2.ensures.cost, i.cost, larger);
       position = omega arith;
       repeat = omega arith;
-      accepting = rw (c.or-some.ensures.accepting, c.find_ends-ends.ensures.accepting)
-          (accepted_some t ts c.args.positions.now c.args.here c.loop-part.cursor.position _ next
-          c.loop-part.some.accepting _ (rw more at i.accepting));
-      nullable = rw (c.or-some.ensures.nullable, c.find_ends-ends.ensures.nullable)
-          (or_assoc c.loop-part.some.nullable (nullable t c.args.here) (nullable_some ts c.args.here) ∙ rw more at i.nullable);
-      noted = noted_more t ts c.args.positions.now c.args.here c.loop-part.cursor.position _ next c.loop-part.loops
-          c.find_ends-ends.new.loops _ c.loop-part.cursor.repeat _
-          (rw more at i.noted) c.find_ends-ends.ensures.repeat c.find_ends-ends.ensures.noted;
+      accepting = rw (c.or-some.ensures.accepting, c.find_ends-in-loop-part-2.ensures.accepting)
+          (accepted_some t ts c.args.positions.now c.args.here c.loop-part-2.cursor.position _ next
+          c.loop-part-2.some.accepting _ (rw more at i.accepting));
+      nullable = rw (c.or-some.ensures.nullable, c.find_ends-in-loop-part-2.ensures.nullable)
+          (or_assoc c.loop-part-2.some.nullable (nullable t c.args.here) (nullable_some ts c.args.here) ∙ rw more at i.nullable);
+      noted = noted_more t ts c.args.positions.now c.args.here c.loop-part-2.cursor.position _ next c.loop-part-2.loops
+          c.find_ends-in-loop-part-2.new.loops _ c.loop-part-2.cursor.repeat _
+          (rw more at i.noted) c.find_ends-in-loop-part-2.ensures.repeat c.find_ends-in-loop-part-2.ensures.noted;
     }
 
-pub find_ends-end_run-requires : goal.find_ends-end_run-requires
-find_ends-end_run-requires t c =
+pub end_run-requires : goal.end_run-requires
+end_run-requires t c =
     let e : shape_of c.args.part.now ≡ run c.in-Run.n = ap shape_of c.in-Run.is ∙ shape_of-Run c.in-Run.n in
     rw (e, position_count_run c.in-Run.n) at c.requires.room
 
-pub find_ends-returns-in-Run-clause-noted : goal.find_ends-returns-in-Run-clause-noted
-find_ends-returns-in-Run-clause-noted t c =
+pub returns-in-Run-clause-noted : goal.returns-in-Run-clause-noted
+returns-in-Run-clause-noted t c =
     let e : shape_of c.args.part.now ≡ run c.in-Run.n = ap shape_of c.in-Run.is ∙ shape_of-Run c.in-Run.n in
     rw (e, loop_ends_run c.in-Run.n (drop c.args.cursor.now.position c.args.positions.now) c.args.here) refl
 
-pub find_ends-returns-in-Run-clause-position : goal.find_ends-returns-in-Run-clause-position
-find_ends-returns-in-Run-clause-position t c =
+pub returns-in-Run-clause-position : goal.returns-in-Run-clause-position
+returns-in-Run-clause-position t c =
     let e : shape_of c.args.part.now ≡ run c.in-Run.n = ap shape_of c.in-Run.is ∙ shape_of-Run c.in-Run.n in
     rw (e, position_count_run c.in-Run.n) c.end_run.ensures.position
 
-pub find_ends-returns-in-Run-clause-repeat : goal.find_ends-returns-in-Run-clause-repeat
-find_ends-returns-in-Run-clause-repeat t c =
+pub returns-in-Run-clause-repeat : goal.returns-in-Run-clause-repeat
+returns-in-Run-clause-repeat t c =
     let e : shape_of c.args.part.now ≡ run c.in-Run.n = ap shape_of c.in-Run.is ∙ shape_of-Run c.in-Run.n in
     rw (e, repeats_run c.in-Run.n) (omega (arith, c.end_run.ensures.repeat))
 
-pub find_ends-returns-in-Alternation-clause-noted : goal.find_ends-returns-in-Alternation-clause-noted
-find_ends-returns-in-Alternation-clause-noted t c =
+pub returns-in-Alternation-clause-noted : goal.returns-in-Alternation-clause-noted
+returns-in-Alternation-clause-noted t c =
     let ns = c.in-Alternation.sequences in
     let e : shape_of c.args.part.now ≡ alt (runs ns) = ap shape_of c.in-Alternation.is ∙ shape_of-Alternation ns in
     rw (e, loop_ends_runs ns (drop c.args.cursor.now.position c.args.positions.now) c.args.here) refl
 
-pub find_ends-returns-in-Alternation-clause-repeat : goal.find_ends-returns-in-Alternation-clause-repeat
-find_ends-returns-in-Alternation-clause-repeat t c =
+pub returns-in-Alternation-clause-repeat : goal.returns-in-Alternation-clause-repeat
+returns-in-Alternation-clause-repeat t c =
     let ns = c.in-Alternation.sequences in
     let e : shape_of c.args.part.now ≡ alt (runs ns) = ap shape_of c.in-Alternation.is ∙ shape_of-Alternation ns in
     rw (e, repeats_runs ns) (omega (arith, c.end_sequences.ensures.repeat))
 
-pub find_ends-returns-in-Options-clause-noted : goal.find_ends-returns-in-Options-clause-noted
-find_ends-returns-in-Options-clause-noted t c =
+pub returns-in-Options-clause-noted : goal.returns-in-Options-clause-noted
+returns-in-Options-clause-noted t c =
     let n = c.in-Options.n in
     let count = c.in-Options.count in
     let e : shape_of c.args.part.now ≡ options n count = ap shape_of c.in-Options.is ∙ shape_of-Options n count in
     rw (e, loop_ends_options n count (drop c.args.cursor.now.position c.args.positions.now) c.args.here) refl
 
-pub find_ends-returns-in-Options-clause-repeat : goal.find_ends-returns-in-Options-clause-repeat
-find_ends-returns-in-Options-clause-repeat t c =
+pub returns-in-Options-clause-repeat : goal.returns-in-Options-clause-repeat
+returns-in-Options-clause-repeat t c =
     let n = c.in-Options.n in
     let count = c.in-Options.count in
     let e : shape_of c.args.part.now ≡ options n count = ap shape_of c.in-Options.is ∙ shape_of-Options n count in

@@ -1,7 +1,7 @@
 use Rattle.std.proofs.Common.{◌≡◌, suc, ◌+◌, ◌-◌, ◌||◌, drop, sym, ◌∙◌, ap, refl, arith}
 use Rattle.std.proofs.Math.Bool.{and_assoc, or-false, or-true}
 use Rattle.cs_syntax.specs.Matching.{none}
-use Rattle.cs_match.specs.declared.look_around.LookAround.{LookAround}
+use Rattle.cs_match.specs.declared.state.LookAround.{LookAround}
 use Rattle.cs_match.specs.Expansion.{copies}
 use Rattle.cs_match.specs.Glushkov.{position_count, nullable, nullable_all, is_final}
 use Rattle.cs_match.specs.Parts.{optional_run, options}

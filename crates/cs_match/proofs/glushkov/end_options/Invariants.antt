@@ -1,5 +1,5 @@
 use Rattle.std.proofs.Common.{◌≡◌, ◌+◌, ◌-◌, ◌&&◌, drop}
-use Rattle.cs_match.specs.declared.look_around.LookAround.{LookAround}
+use Rattle.cs_match.specs.declared.state.LookAround.{LookAround}
 use Rattle.cs_match.specs.Glushkov.{position_count, nullable, is_final, accepts}
 use Rattle.cs_match.specs.Parts.{options}
 use Rattle.cs_match.proofs.glushkov.end_options.Given as goal

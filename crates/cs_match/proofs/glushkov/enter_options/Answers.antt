@@ -1,6 +1,6 @@
 use Rattle.std.proofs.Common.{◌≡◌, ℕ, suc, ◌+◌, ◌-◌, ◌≤◌, ◌||◌, ◌++◌, Bool, false, List, take, drop, length, sym, ◌∙◌, ap, arith}
 use Rattle.cs_syntax.specs.Matching.{none}
-use Rattle.cs_match.specs.declared.look_around.LookAround.{LookAround}
+use Rattle.cs_match.specs.declared.state.LookAround.{LookAround}
 use Rattle.cs_match.specs.Expansion.{copies}
 use Rattle.cs_match.specs.Glushkov.{position_count, accepts}
 use Rattle.cs_match.specs.Entered.{entered}

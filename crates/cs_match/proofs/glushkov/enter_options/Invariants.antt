@@ -1,5 +1,5 @@
 use Rattle.std.proofs.Common.{◌≡◌, ◌+◌, ◌-◌, ◌++◌, drop, take}
-use Rattle.cs_match.specs.declared.look_around.LookAround.{LookAround}
+use Rattle.cs_match.specs.declared.state.LookAround.{LookAround}
 use Rattle.cs_match.specs.Glushkov.{position_count, accepts}
 use Rattle.cs_match.specs.Entered.{entered, AreShifted}
 use Rattle.cs_match.specs.Parts.{options}

@@ -1,5 +1,6 @@
 use Rattle.std.proofs.Common.{◌<◌, length, get_or, sym, ◌∙◌, ap, arith}
-use Rattle.cs_match.specs.CachedStates.{StateList, behind_of}
+use Rattle.cs_match.specs.declared.state.State.{State}
+use Rattle.cs_match.specs.CachedStates.{StateList}
 use Rattle.cs_match.proofs.CachedStateLemmas.{length-states_of, state_is}
 use Rattle.cs_match.proofs.cached_states.CachedStates.behind.Goals as goal
 
@@ -15,4 +16,4 @@ returns c = λ other.
     let low : slot < length m.behinds.items =
     omega (arith, c.requires, length-states_of m.count m.sets.items m.behinds.items, ap (λ (s : StateList). length s.items) c.self.view_is) in
     let at = state_is m.count slot m.sets.items m.behinds.items other c.index.result.now low in
-    c.index.ensures ∙ sym (ap behind_of (sym (ap (λ (s : StateList). get_or s.items slot other) c.self.view_is) ∙ at))
+    c.index.ensures ∙ sym (ap (λ (s : State). s.behind) (sym (ap (λ (s : StateList). get_or s.items slot other) c.self.view_is) ∙ at))

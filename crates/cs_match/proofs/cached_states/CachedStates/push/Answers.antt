@@ -1,11 +1,11 @@
 use Rattle.std.proofs.Common.{◌≡◌, ◌+◌, ◌<◌, ◌++◌, ◌∷◌, [], Bool, List, length, sym, ◌∙◌, ap, subst, arith}
 use Rattle.std.specs.Prelude.{Result, Ok, is_ok, if◌then◌else◌}
-use Rattle.cs_match.specs.declared.cached_states.Behind.{Behind}
+use Rattle.cs_match.specs.declared.state.Behind.{Behind}
 use Rattle.cs_match.specs.declared.state.State.{State}
-use Rattle.cs_match.specs.CachedStates.{StateList, behind_of, with_positions, states_of}
+use Rattle.cs_match.specs.CachedStates.{StateList, states_of}
 use Rattle.cs_match.specs.PositionSet.{positions_of, IsPositionSet}
 use Rattle.cs_match.specs.Work.{words}
-use Rattle.cs_match.proofs.CachedStateLemmas.{length-states_of, length-sets, pushed_states, pushed_sets}
+use Rattle.cs_match.proofs.CachedStateLemmas.{length-states_of, length-sets, with_positions, pushed_states, pushed_sets}
 use Rattle.cs_match.proofs.PositionCountLemmas.{scaled}
 use Rattle.cs_match.proofs.cached_states.CachedStates.push.Goals as goal
 
@@ -69,9 +69,8 @@ module _ (c : goal.After-unwrap-3) where
   sets_are : c.extend_from_slice.new.self.items ≡ c.self.inside.sets.items ++ c.words.result.now
   sets_are = ok_is _ c.unwrap-2.result _ _ c.self.inside.sets.items c.unwrap-2.ensures c.extend_from_slice.ensures.items
 
-  behinds_are : c.push-2.new.self.items ≡ c.self.inside.behinds.items ++ behind_of c.args.state.now ∷ []
+  behinds_are : c.push-2.new.self.items ≡ c.self.inside.behinds.items ++ c.args.state.now.behind ∷ []
   behinds_are = ok_is _ c.unwrap-3.result _ _ c.self.inside.behinds.items c.unwrap-3.ensures c.push-2.ensures.items
-      ∙ ap (λ (b : Behind). c.self.inside.behinds.items ++ b ∷ []) c.of.ensures
 
   is_set : IsPositionSet c.words.result.now c.self.inside.count
   is_set =
@@ -86,7 +85,7 @@ pub invariant_of-self : goal.invariant_of-self
 invariant_of-self c =
     let m = c.self.inside in
     let given = c.self.invariant in (
-      rw (sets_are c, behinds_are c) (pushed_sets m.count c.words.result.now (behind_of c.args.state.now) (is_set c) m.sets.items m.behinds.items given.0),
+      rw (sets_are c, behinds_are c) (pushed_sets m.count c.words.result.now c.args.state.now.behind (is_set c) m.sets.items m.behinds.items given.0),
       omega (
         arith,
         given.1,
@@ -107,7 +106,7 @@ returns c =
     let more : states_of m.count c.extend_from_slice.new.self.items c.push-2.new.self.items
     ≡ states_of m.count m.sets.items m.behinds.items ++ c.args.state.now ∷ [] =
     rw (sets_are c, behinds_are c)
-    (pushed_states m.count c.words.result.now (behind_of c.args.state.now) (is_set c) m.sets.items m.behinds.items c.self.invariant.0
-    ∙ ap (λ (ps : List Bool). states_of m.count m.sets.items m.behinds.items ++ with_positions ps (behind_of c.args.state.now) ∷ []) (same_positions c)) in
+    (pushed_states m.count c.words.result.now c.args.state.now.behind (is_set c) m.sets.items m.behinds.items c.self.invariant.0
+    ∙ ap (λ (ps : List Bool). states_of m.count m.sets.items m.behinds.items ++ with_positions ps c.args.state.now.behind ∷ []) (same_positions c)) in
     ap (λ (xs : List State). record { items = xs; most = m.most; positions = m.count }) more
     ∙ ap (λ (s : StateList). record { items = s.items ++ c.args.state.now ∷ []; most = s.most; positions = s.positions }) c.self.view_is

@@ -1,6 +1,6 @@
 use Rattle.std.proofs.Common.{◌≡◌, ◌+◌, ◌-◌, ◌*◌, ◌<◌, ◌≤◌, List, ℕ, length, take, drop, get_or, sym, ◌∙◌, ap, subst, arith}
 use Rattle.cs_match.specs.declared.state.State.{State}
-use Rattle.cs_match.specs.CachedStates.{StateList, behind_of}
+use Rattle.cs_match.specs.CachedStates.{StateList}
 use Rattle.cs_match.specs.PositionSet.{positions_of, IsPositionSet}
 use Rattle.cs_match.specs.Work.{words}
 use Rattle.cs_match.proofs.CachedStateLemmas.{length-states_of, set_within, state_is, set_is, set_at}
@@ -90,6 +90,6 @@ returns-clause-same c = λ other.
     let w = c.div_ceil-words.result in
     let read : List ℕ = take (c.args.slot * w + w - c.args.slot * w) (drop (c.args.slot * w) c.deref.result.now) in
     ap (λ (s : StateList). (get_or s.items c.args.slot other).positions) (sym c.self.view_is)
-    ∙ ap (λ (s : State). s.positions) (state_is m.count c.args.slot m.sets.items m.behinds.items other (behind_of other) low)
+    ∙ ap (λ (s : State). s.positions) (state_is m.count c.args.slot m.sets.items m.behinds.items other other.behind low)
     ∙ ap (λ (ws : List ℕ). positions_of ws m.count) (sym is)
     ∙ ap (positions_of read) (ap (λ (s : StateList). s.positions) c.self.view_is)

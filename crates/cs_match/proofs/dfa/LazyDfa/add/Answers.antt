@@ -149,7 +149,7 @@ invariant_of-self c =
       cached = subst (AreStates t s.classes.count) (sym c.push.ensures)
           (added_states t s.classes s.cached s.transitions.items right.classes right.cached right.table s.scratch
           c.resize.new.self.items long same blank room right.room
-          (subst (λ (d : Dfa). IsBlock (cuts_of d.tree) d.states.scratch.unfinished) (sym c.self.view_is) c.requires.block));
+          (subst (λ (d : Dfa). IsBlock (cuts_of d.tree) d.states.scratch.behind.unfinished) (sym c.self.view_is) c.requires.block));
       table = subst (λ (states : StateList). IsTable t s.classes states.items c.resize.new.self.items) (sym c.push.ensures)
           (added_table t s.classes s.cached s.transitions.items right.classes right.cached right.table s.scratch
           c.resize.new.self.items long same blank);

@@ -23,7 +23,7 @@ step_over-requires-clause-one_each c =
 pub step_over-requires-clause-block : goal.step_over-requires-clause-block
 step_over-requires-clause-block c =
     let t = c.self.inside.program.now in
-    subst (λ (n : State). IsBlock (cuts_of t) n.unfinished) (sym (c.load.ensures (start t))) (c.self.invariant.cached.blocks c.args.slot)
+    subst (λ (n : State). IsBlock (cuts_of t) n.behind.unfinished) (sym (c.load.ensures (start t))) (c.self.invariant.cached.blocks c.args.slot)
 
 pub put-requires-clause-slot : goal.put-requires-clause-slot
 put-requires-clause-slot c = subst (λ (d : Dfa). HasSlot d c.args.slot) (sym c.self.view_is) c.requires.slot

@@ -1,4 +1,4 @@
-use Rattle.std.proofs.Common.{◌≡◌, ◌≢◌, ◌*◌, ◌<◌, ◌∙◌, ℕ, List, false, length, get_or, inr, refl, sym, ap, subst, arith}
+use Rattle.std.proofs.Common.{◌≡◌, ◌≢◌, ◌+◌, ◌*◌, ◌<◌, ◌∙◌, ℕ, List, false, length, get_or, inr, refl, sym, ap, subst, arith}
 use Rattle.std.specs.Prelude.{IfSome}
 use Rattle.std.proofs.lemmas.List.{get_or_default}
 use Rattle.std.proofs.lemmas.Bool.{ne_eqb}
@@ -25,16 +25,16 @@ leads_to t u count states n m k b number same is other h made some stands =
 
 -- the state under construction has an unfinished character of a whole block
 scratch_block : (old : Dfa) (slot byte : ℕ) → IsConsistent old.tree old.states → old.states.scratch ≡ successor old.tree (state_in old slot) byte →
-    IsBlock (cuts_of old.tree) old.states.scratch.unfinished
+    IsBlock (cuts_of old.tree) old.states.scratch.behind.unfinished
 scratch_block old slot byte right is =
-    subst (λ (n : State). IsBlock (cuts_of old.tree) n.unfinished) (sym is)
+    subst (λ (n : State). IsBlock (cuts_of old.tree) n.behind.unfinished) (sym is)
     (block_successor old.tree (state_in old slot) byte (right.cached.blocks slot))
 
 pub is_lost-requires : goal.is_lost-requires
 is_lost-requires c =
     let old = c.args.self.now in
-    let later : (successor old.tree (state_in old c.args.slot) c.args.byte).first ≡ false = rw (ne_eqb c.args.byte 10 c.requires.within) refl in
-    record { later = ap (λ (n : State). n.first) c.requires.scratch ∙ later }
+    let later : (successor old.tree (state_in old c.args.slot) c.args.byte).behind.first ≡ false = rw (ne_eqb c.args.byte 10 c.requires.within) refl in
+    record { later = ap (λ (n : State). n.behind.first) c.requires.scratch ∙ later }
 
 pub put-requires-clause-leads : goal.put-requires-clause-leads
 put-requires-clause-leads c =
@@ -54,8 +54,8 @@ pub add-requires-then-len-most-clause-block : goal.add-requires-then-len-most-cl
 add-requires-then-len-most-clause-block c =
     let old = c.args.self.now in
     let new = c.empty.new.self in
-    subst (λ (t : Tree). IsBlock (cuts_of t) new.states.scratch.unfinished) (sym c.empty.ensures.same)
-    (subst (λ (n : State). IsBlock (cuts_of old.tree) n.unfinished) (sym c.empty.ensures.scratch)
+    subst (λ (t : Tree). IsBlock (cuts_of t) new.states.scratch.behind.unfinished) (sym c.empty.ensures.same)
+    (subst (λ (n : State). IsBlock (cuts_of old.tree) n.behind.unfinished) (sym c.empty.ensures.scratch)
     (scratch_block old c.args.slot c.args.byte (subst (λ (d : Dfa). IsConsistent d.tree d.states) c.self.view_is c.self.invariant) c.requires.scratch))
 
 pub add-next-requires-clause-block : goal.add-next-requires-clause-block
@@ -79,6 +79,19 @@ put-requires-2-clause-leads c =
     (λ e. omega (arith, e, is, some, scaled 4 other (count_in old) c.if-other.true))
     (cached other is (record { within = found.0; ordinary = inr c.if-other.true })
     (get_or_default items other (start t) old.states.scratch found.0 ∙ found.1))
+
+pub overflow_cast-next-2 : goal.overflow_cast-next-2
+overflow_cast-next-2 c =
+    let other = c.in-Some.other in
+    let s = c.self.inside.states in
+    let found = subst (λ o. IfSome o (λ k. (k < length s.cached.items) × (get_or s.cached.items k s.scratch ≡ s.scratch))) c.in-Some.is c.find-lookup.ensures.equal in
+    let some = some_classes c.self.inside.program.now s.classes c.self.invariant.classes in
+    omega (
+      arith,
+      some,
+      c.self.invariant.cached.fits,
+      scaled (other + 1) s.cached.most s.classes.count (omega (arith, found.0, c.self.invariant.cached.bound)),
+    )
 
 pub add-next-requires-clause-room : goal.add-next-requires-clause-room
 add-next-requires-clause-room c =

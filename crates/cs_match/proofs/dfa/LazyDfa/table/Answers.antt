@@ -1,5 +1,5 @@
 use Rattle.std.proofs.Common.{◌≡◌, ◌≢◌, ◌+◌, ◌*◌, ℕ, List, get_or, refl, sym, ap, ◌∙◌}
-use Rattle.cs_match.specs.declared.table.Table.{Table}
+use Rattle.cs_match.specs.declared.lanes.Table.{Table}
 use Rattle.cs_match.specs.ConsistentDfa.{Dfa, IsConsistent, IsKnown, IsTableOf, table_in, count_in}
 use Rattle.cs_match.specs.LazyDfa.{start_number}
 use Rattle.cs_match.specs.Table as table

@@ -1,0 +1,16 @@
+use Rattle.std.proofs.Common.{◌≡◌, ℕ, ◌+◌, ◌<◌, true, false, length, map, get_or}
+use Rattle.cs_match.specs.Entered.{if_entered, if_previous, if_kept}
+use Rattle.cs_match.proofs.position.Mask.fill.Given as goal
+
+abbrev pub invariant-loop-index : goal.invariant-loop-index
+invariant-loop-index l = record {
+  cost : l.steps.count ≡ l.fn.steps.count + l.index;
+  input : l.self.input ≡ l.input;
+  known : l.self.is_known ≡ true;
+  entered_room : length l.self.entered ≡ length l.positions;
+  previous_room : length l.self.previous ≡ length l.positions;
+  kept_room : length l.self.kept ≡ length l.positions;
+  entered : (k : ℕ) → k < l.index → get_or l.self.entered k false ≡ get_or (map (if_entered l.input) l.positions) k false;
+  previous : (k : ℕ) → k < l.index → get_or l.self.previous k false ≡ get_or (map (if_previous l.input) l.positions) k false;
+  kept : (k : ℕ) → k < l.index → get_or l.self.kept k false ≡ get_or (map (if_kept l.input) l.positions) k false;
+}

@@ -1,7 +1,7 @@
 -- The names that most proofs cite, passed on from one place. Declares nothing.
 pub use Rattle.cs_index.proofs.decoding.DecodingIsUnique.{decoding_is_unique, names_tail}
 pub use Rattle.cs_index.proofs.writer.BuilderAdd.{all_push, ascends_push, names_entries}
-pub use Rattle.cs_index.specs.AscendingIds.{AscendWithin, BeginsFrom, ids_onward, next_after}
+pub use Rattle.cs_index.specs.AscendingIds.{AscendWithin, BeginsFrom, ids_onward, max_ids, next_after}
 pub use Rattle.cs_index.specs.Built.{are_paths, are_reduced, is_above, is_before, is_storable}
 pub use Rattle.cs_index.specs.Encoding.{Entry, Files, IsString, ListEntry, PostingList, encoding_of, layout, names_of, posting_list_bytes, postings_of, sections_of, three_bytes}
 pub use Rattle.cs_index.specs.Gathering.{list_of}
@@ -15,7 +15,7 @@ pub use Rattle.cs_index.specs.Written.{AllBelow, Written, entries_written, ids_o
 pub use Rattle.cs_index.specs.declared.fault.IndexFault.{IndexFault}
 pub use Rattle.cs_merge.specs.Content.{DecodesAsContent, EachFile, HasContent, IsContent, LieUnder, Opens}
 pub use Rattle.cs_merge.specs.IdMap.{AreByRank, AreDisjoint, AreDropped, AreIdMaps, AreMapped, AreMappedLists, AreMergedNames, AreNamesSoFar, AreNewIdsFrom, AreRunEnds, AreScattered, AreUnique, IsImageOfRun, IsIncreasing, IsInjective, IsMapped, IsMergingNames, IsOfEither, IsRun, NewIds, StayBelow, kept, new, new_id, new_ids_of}
-pub use Rattle.cs_merge.specs.ListMerge.{AreDistinctIds, AreGathered, AreLeft, AreMergedLists, BeginFrom, IdRun, IsMappedPostings, IsBelow, IsMergedList, IsRunOf, IsWithinRun, IsWrittenBelow, list_ids, list_trigram, lower_of, position_after, run_ids, runs_ids, without_number}
+pub use Rattle.cs_merge.specs.ListMerge.{AreDistinctIds, AreGathered, AreLeft, AreMergedLists, BeginFrom, EndsWith, IdRun, IsFollowed, IsMappedPostings, IsReadAhead, IsBelow, IsMergedList, IsRunOf, IsWithinRun, IsWrittenBelow, list_ids, list_trigram, lower_of, position_after, run_ids, runs_ids, without_number}
 pub use Rattle.cs_merge.specs.OldLists.{AreAllMerged, AreRead, IsMergingLists, IsStored, known_parts, old_ids}
 pub use Rattle.cs_merge.specs.ListsFault.{AreTooLong, IsListsFault, are_whole_from, rest_fault}
 pub use Rattle.cs_merge.specs.Merge.{merge_files, merge_paths}

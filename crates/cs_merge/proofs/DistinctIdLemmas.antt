@@ -57,7 +57,7 @@ once_few (m ∷ ns) n once =
 
 -- ---- new ids of both lists
 
-none_before : (count next id : ℕ) (ids : List ℕ) → AscendWithin count next ids → id < next → has ids id ≡ false
+pub none_before : (count next id : ℕ) (ids : List ℕ) → AscendWithin count next ids → id < next → has ids id ≡ false
 none_before count next id [] up h = refl
 none_before count next id (other ∷ ids) up h =
     let from : next ≤ other = up.0 in

@@ -11,6 +11,7 @@ mod CoverLemmas
 mod Examples
 mod FileOrderLemmas
 mod IdRunLemmas
+mod ReadAheadLemmas
 mod MergeResultLemmas
 mod NameStepLemmas
 mod NextListLemmas

@@ -11,7 +11,7 @@ use Rattle.cs_index.specs.Postings.{nothing_read}
 use Rattle.cs_index.specs.Tables.{TableParts, TablesIn, lists_room}
 use Rattle.cs_index.specs.Written.{Written}
 use Rattle.cs_merge.specs.IdMap.{NewIds, AreMappedLists}
-use Rattle.cs_merge.specs.ListMerge.{AreLeft, AreMergedLists}
+use Rattle.cs_merge.specs.ListMerge.{list_trigram, lower_of, AreLeft, AreMergedLists}
 use Rattle.cs_merge.specs.Mergeable.{both_whole}
 
 -- the parts of an index as far as they are in memory, with zeros for its posting lists
@@ -33,6 +33,11 @@ abbrev pub old_ids : TableParts → BytesAt → ℕ → ℕ → Ids
 old_ids tables read position trigram =
     option_map_or (λ (e : ListEntry). if nat_eq e.trigram trigram then known_ids tables read e else nothing_read)
     (slice_get tables.entries position) nothing_read
+
+-- the least trigram of the lists from two positions on
+abbrev pub next_trigram : TableParts → Parts → ℕ → ℕ → Option ℕ
+next_trigram tables newer older_position newer_position =
+    lower_of (list_trigram (known_parts tables) older_position) (list_trigram newer newer_position)
 
 -- The lists before these positions are written, and where the parts of the old index are known, they are the merged ones.
 pub record IsMergingLists (model : Option (List ℕ)) (tables : TableParts) (read : BytesAt) (newer : Parts)

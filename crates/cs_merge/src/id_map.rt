@@ -1,7 +1,8 @@
-// Maps from the ids of the two indexes to the ids of the merged index. Go: `idMap` in
-// index/merge.go.
-ghost use Rattle.std.specs.Prelude.{◌≡◌, ◌<◌, ◌^◌, ◌∷◌, ◌++◌, [], length, IfOk, OnOk};
-ghost use Rattle.cs_merge.specs.IdMap.{new_id as new_id', AreScattered};
+// Maps from the ids of the two indexes to the ids of the merged index, and their runs. Go: `idMap`
+// and `idrange` in index/merge.go. A run is a range of ids that the map shifts by one distance, or
+// that it drops as a whole.
+ghost use Rattle.std.specs.Prelude.{◌≡◌, ◌<◌, ◌^◌, ◌∷◌, ◌++◌, [], length, IfOk, OnOk, ◌+◌, true, option_map};
+ghost use Rattle.cs_merge.specs.IdMap.{new_id as new_id', AreScattered, IsImageOfRun, IsIncreasing, IsRun};
 ghost use Rattle.cs_merge.specs.ListMerge.{AreDistinctIds};
 
 use std::alloc::{AllocError, Global};
@@ -75,4 +76,150 @@ impl IdMap {
 pub(crate) struct IdMaps {
     pub(crate) older: IdMap,
     pub(crate) newer: IdMap,
+}
+
+/// An id map, and for each id the end of its run.
+#[derive(Drop)]
+pub(crate) struct IdRuns<'a> {
+    new_ids: &'a IdMap,
+    ends: Vec<u32>,
+    is_increasing: bool,
+    mean_shift: u32,
+}
+
+impl<'a> Model for IdRuns<'a> {
+    ghost use Rattle.cs_merge.specs.IdMap.{NewIds, AreIdRuns};
+
+    ghost Value = { NewIds };
+
+    ghost view = { λ s. s.new_ids.now };
+
+    ghost invariant = { λ s. AreIdRuns s.new_ids.now s.ends.items s.is_increasing };
+}
+
+impl<'a> IdRuns<'a> {
+    /// Finds the runs of all ids.
+    pub(crate) fn new(alloc: Global, new_ids: &'a IdMap) -> Result<IdRuns<'a>, AllocError>
+        requires { length new_ids.now < 2 ^ 32 }
+        ensures { IfOk result (λ runs. runs ≡ new_ids.now) }
+    {
+        let mut ends = Vec::new(alloc);
+        let mut end = 0;
+        'ids: for id in 0..new_ids.len() {
+            if id >= end {
+                end = end_from(new_ids, id);
+            }
+            ends.push(end)?;
+        }
+        let is_increasing = find_is_increasing(new_ids);
+        Ok(IdRuns {
+            new_ids,
+            ends,
+            is_increasing,
+            mean_shift: mean_shift(new_ids),
+        })
+    }
+
+    /// Whether the map is increasing: ascending ids have ascending new ids.
+    pub(crate) fn is_increasing(&self) -> bool
+        ensures { result ≡ true → IsIncreasing self.now }
+    {
+        self.is_increasing
+    }
+
+    /// The mean number of ids from one that is shifted by another distance than those before to the
+    /// next such id. It says only what is quicker.
+    pub(crate) fn mean_shift(&self) -> u32 {
+        self.mean_shift
+    }
+
+    /// The new id of an id, if its file is kept.
+    pub(crate) fn new_id(&self, id: u32) -> Option<u32>
+        ensures { result ≡ new_id' self.now id }
+    {
+        self.new_ids.new_id(id)
+    }
+
+    /// The end of the run that contains the id.
+    pub(crate) fn end(&self, id: u32) -> u32
+        ensures { IsRun self.now id result }
+    {
+        match self.ends.get(id as usize) {
+            Some(end) => *end,
+            None => 0,
+        }
+    }
+
+    /// The end of the new ids of the run that contains `id`, whose new id is `new`. If `id` has
+    /// another new id or none, the result is `new`, so that the range is empty.
+    pub(crate) fn new_end(&self, id: u32, new: u32) -> u32
+        ensures { IsImageOfRun self.now new result }
+    {
+        if self.new_id(id) != Some(new) {
+            return new;
+        }
+        new.saturating_add(self.end(id).saturating_sub(id))
+    }
+}
+
+/// The end of the run that begins at the id.
+fn end_from(new_ids: &IdMap, id: u32) -> u32
+    requires bound { length new_ids.now < 2 ^ 32 }
+    requires known { id < length new_ids.now }
+    ensures { IsRun new_ids.now id result }
+{
+    let mut end = id + 1;
+    'ids: while end < new_ids.len() && extends_run(new_ids.new_id(end - 1), new_ids.new_id(end)) {
+        end += 1;
+    }
+    end
+}
+
+/// The number of ids for each distance by which ids are shifted one after another.
+fn mean_shift(new_ids: &IdMap) -> u32
+    requires { length new_ids.now < 2 ^ 32 }
+{
+    let mut shifts = 0u32;
+    let mut last = None;
+    'ids: for id in 0..new_ids.len() {
+        if let Some(new) = new_ids.new_id(id) {
+            let distance = Some(new.wrapping_sub(id));
+            if distance != last {
+                shifts = shifts.saturating_add(1);
+                last = distance;
+            }
+        }
+    }
+    new_ids.len() / shifts.max(1)
+}
+
+/// Whether ascending ids have ascending new ids.
+fn find_is_increasing(new_ids: &IdMap) -> bool
+    requires { length new_ids.now < 2 ^ 32 }
+    ensures { result ≡ true → IsIncreasing new_ids.now }
+{
+    let mut last = None;
+    'ids: for id in 0..new_ids.len() {
+        let Some(new) = new_ids.new_id(id) else {
+            continue;
+        };
+        if let Some(last) = last {
+            if new <= last {
+                return false;
+            }
+        }
+        last = Some(new);
+    }
+    true
+}
+
+/// Whether two adjacent ids are in one run, by their new ids.
+fn extends_run(first: Option<u32>, second: Option<u32>) -> bool
+    ensures { result ≡ true → second ≡ option_map (λ new. new + 1) first }
+{
+    match (first, second) {
+        (None, None) => true,
+        (Some(first), Some(second)) => second > first && second - first == 1,
+        _ => false,
+    }
 }

@@ -17,12 +17,14 @@
 //!   range of ids that the map shifts by one distance or drops as a whole (`id_runs`, Go's
 //!   `idrange`). The first id of a run is encoded again, and the others are copied as they are
 //!   encoded, up to the first id of the other list (`mapped_postings`). Changes that are scattered
-//!   over many names make the runs short, and a copy costs as much as some four ids. So a run is
-//!   copied only if it is long for the distance of the last two ids; its ids are written one by one
-//!   otherwise. Dropped runs are skipped without decoding. The trigram set of a name is never
-//!   built. A list is read to its end even if all of its ids are dropped, so that damage is always
-//!   found. Once the written lists have more bytes than an index may have (`Sections::list_bytes`),
-//!   the others are only read for damage.
+//!   over many names make the runs short, and a copy costs as much as some eight ids. So a run is
+//!   copied only if it is long for the distance of the last two ids. Otherwise the list is read
+//!   once more, ahead, up to its next id that is dropped or shifted by another distance, and the
+//!   ids before that one are copied: dropped ids that the list does not have end no copy. If the
+//!   distance changes often, ids are written one by one. Dropped runs are skipped without decoding.
+//!   The trigram set of a name is never built. A list is read to its end even if all of its ids are
+//!   dropped, so that damage is always found. Once the written lists have more bytes than an index
+//!   may have (`Sections::list_bytes`), the others are only read for damage.
 //! - *Other orders.* If the new ids of an index are not in the order of its old ones, the runs of
 //!   both lists are sorted by their first new ids, and then copied.
 //! - *Replacing* (`replacing`). If the newer paths cover all paths and names of the old index
@@ -49,10 +51,8 @@
 //! a store may have changed.
 #![tactic(auto)]
 
-mod covering;
 mod fault;
 mod id_map;
-mod id_runs;
 pub mod laws;
 mod mapped_postings;
 mod merging;
@@ -60,7 +60,6 @@ mod merging_lists;
 mod merging_names;
 mod merging_trigrams;
 mod replacing;
-mod sorted_names;
 
 pub use fault::MergeFault;
 pub use merging::{merge, merge_stored};

@@ -17,13 +17,12 @@ ghost use Rattle.cs_merge.specs.Mergeable.{AreTested};
 ghost use Rattle.cs_merge.specs.MergeResult.{most_bytes, IsBuildFault, IsGivenIndex, IsIndexWithin, IsMerged, IsMergeAnswer, IsMergeFault};
 ghost use Rattle.cs_merge.specs.SortedNames.{AreIndexNames, AreTestedNames};
 
-use crate::covering::{Cover, is_under};
 use crate::fault::MergeFault;
 use crate::id_map::IdMaps;
 use crate::merging_lists::BothRuns;
-use crate::merging_names::merge_names;
+use crate::merging_names::{SortedNames, merge_names};
 use crate::merging_trigrams::{Sides, are_valid, merge_lists};
-use crate::sorted_names::SortedNames;
+use crate::replacing::{Cover, is_under};
 use cs_index::{BuildFault, Index, NameTable, Sections, Tables, Texts};
 use cs_output::{Output, Sent};
 use cs_tree::{IoFault, MemStore, Store, reduce};

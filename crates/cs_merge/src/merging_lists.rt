@@ -1,14 +1,13 @@
 // The merge of the posting lists of one trigram: a two-way merge by id that copies long runs.
-ghost use Rattle.std.specs.Prelude.{◌≡◌, ◌≢◌, ◌⊎◌, ◌<◌, ◌^◌, ◌&&◌, ◌++◌, [], ◌∷◌, true, false, Some, None, length, slice_get, IfErr, IfOk, MatchResult, OnOk};
+ghost use Rattle.std.specs.Prelude.{◌≡◌, ◌≢◌, ◌⊎◌, ◌<◌, ◌^◌, ◌&&◌, ◌++◌, [], ◌∷◌, true, false, Some, None, length, slice_get, IfErr, IfOk, OnOk};
 ghost use Rattle.cs_trigram.specs.Trigram.{closing_trigram};
 ghost use Rattle.cs_index.specs.Written.{last_ids, AllBelow};
 ghost use Rattle.cs_index.specs.Postings.{IsListFault};
 ghost use Rattle.cs_index.specs.AscendingIds.{next_after, AscendWithin};
 ghost use Rattle.cs_merge.specs.IdMap.{AreUnique, IsIncreasing, AreNewIdsFrom};
-ghost use Rattle.cs_merge.specs.ListMerge.{lower_of, runs_ids, AreGathered, AreDistinctIds, IsWrittenBelow, BeginFrom, IsBelow, IsMergedList};
+ghost use Rattle.cs_merge.specs.ListMerge.{lower_of, runs_ids, AreGathered, AreDistinctIds, IsWrittenBelow, BeginFrom, IsBelow, IsListAnswer, IsMergedList};
 
-use crate::id_map::IdMaps;
-use crate::id_runs::IdRuns;
+use crate::id_map::{IdMaps, IdRuns};
 use crate::mapped_postings::MappedPostings;
 use cs_index::{EncodedRun, IndexFault, Sections};
 use std::alloc::{AllocError, Global};
@@ -62,8 +61,7 @@ pub(crate) fn merge_list(
     requires below { (trigram < closing_trigram) ⊎ ((lists.older.ids ≡ []) × (lists.newer.ids ≡ [])) }
     ensures ok { OnOk result (IsMergedList
         trigram sections.old sections.new lists.entry.older.ids lists.entry.newer.ids [] []) }
-    ensures fault { MatchResult result (λ _. (lists.entry.older.whole && lists.entry.newer.whole) ≡ true)
-        (IsListFault (lists.entry.older.whole && lists.entry.newer.whole)) }
+    ensures fault { IsListAnswer (lists.entry.older.whole && lists.entry.newer.whole) result }
 {
     // If both maps are increasing, the new ids of each list ascend.
     if runs.older.is_increasing() && runs.newer.is_increasing() {
@@ -85,7 +83,7 @@ fn gather<'a>(
 ) -> Result<(), IndexFault>
     ensures ok { OnOk result
         (AreGathered runs.now list_runs.old.items list_runs.new.items list.entry.ids []) }
-    ensures fault { MatchResult result (λ _. list.entry.whole ≡ true) (IsListFault list.entry.whole) }
+    ensures fault { IsListAnswer list.entry.whole result }
 {
     let mut rest = list;
     'ids: while let Some(id) = rest.first() {
@@ -131,8 +129,7 @@ fn merge_ascending(
     requires below { (trigram < closing_trigram) ⊎ ((lists.older.ids ≡ []) × (lists.newer.ids ≡ [])) }
     ensures ok { OnOk result (IsMergedList
         trigram sections.old sections.new lists.entry.older.ids lists.entry.newer.ids [] []) }
-    ensures fault { MatchResult result (λ _. (lists.entry.older.whole && lists.entry.newer.whole) ≡ true)
-        (IsListFault (lists.entry.older.whole && lists.entry.newer.whole)) }
+    ensures fault { IsListAnswer (lists.entry.older.whole && lists.entry.newer.whole) result }
 {
     let mut older = lists.older;
     let mut newer = lists.newer;
@@ -198,7 +195,7 @@ fn write_next(
 {
     sections.id(id)?;
     if list.has_long_run() {
-        let run = list.run(id, limit);
+        let run = list.next_run(id, limit);
         sections.encoded_run(&run)?;
     }
     list.advance(id)?;

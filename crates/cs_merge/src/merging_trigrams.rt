@@ -8,13 +8,13 @@ ghost use Rattle.cs_index.specs.Postings.{IsListFault};
 ghost use Rattle.cs_index.specs.Sending.{IsSentOn};
 ghost use Rattle.cs_index.specs.Written.{IsSentEarly, Written};
 ghost use Rattle.cs_merge.specs.IdMap.{new_ids_of, new_ids_read, AreIdMaps};
-ghost use Rattle.cs_merge.specs.ListMerge.{list_ids, list_trigram, lower_of, position_after, AreLeft, IsMergedList};
-ghost use Rattle.cs_merge.specs.OldLists.{known_parts, old_ids, AreAllMerged, AreRead, IsMergingLists, IsStored};
+ghost use Rattle.cs_merge.specs.ListMerge.{list_ids, list_trigram, position_after, AreLeft, IsListAnswer, IsMergedList};
+ghost use Rattle.cs_merge.specs.OldLists.{known_parts, next_trigram, old_ids, AreAllMerged, AreRead, IsMergingLists, IsStored};
 ghost use Rattle.cs_merge.specs.ListsFault.{are_whole_from, rest_fault, IsListsFault};
 ghost use Rattle.cs_merge.specs.Mergeable.{both_whole};
 
 use crate::fault::MergeFault;
-use crate::id_runs::IdRuns;
+use crate::id_map::IdRuns;
 use crate::mapped_postings::MappedPostings;
 use crate::merging_lists::{BothLists, BothRuns, lower, merge_list};
 use crate::replacing::{READ_LEN, is_newer_whole_from, is_whole_from};
@@ -103,9 +103,8 @@ fn send_next<S: Store, O: Output>(
         progress.new.older progress.new.newer)) }
     ensures more { IfOk result (λ sent. IfOk sent (λ more. more ≡ true →
         progress.old.older + progress.old.newer < progress.new.older + progress.new.newer)) }
-    ensures all { IfOk result (λ sent. IfOk sent (λ more. more ≡ false → lower_of
-        (list_trigram (known_parts sides.now.older.now) progress.new.older)
-        (list_trigram sides.now.newer.now progress.new.newer) ≡ None)) }
+    ensures all { IfOk result (λ sent. IfOk sent (λ more. more ≡ false →
+        next_trigram sides.now.older.now sides.now.newer.now progress.new.older progress.new.newer ≡ None)) }
     ensures given { IfOk result (λ sent. OnOk sent
         (IsSentOn sections.old.sent sections.new.sent (O.given out.old) (O.given out.new))) }
     ensures early { IfOk result (λ sent. OnOk sent (IsSentEarly sections.new)) }
@@ -147,9 +146,8 @@ fn merge_next<S: Store>(
     ensures sent { IfOk result (λ merged. OnOk merged (sections.new.sent ≡ sections.old.sent)) }
     ensures same { IfOk result
         (λ merged. IfOk merged (λ more. more ≡ false → sections.new ≡ sections.old)) }
-    ensures all { IfOk result (λ merged. IfOk merged (λ more. more ≡ false → lower_of
-        (list_trigram (known_parts sides.now.older.now) progress.new.older)
-        (list_trigram sides.now.newer.now progress.new.newer) ≡ None)) }
+    ensures all { IfOk result (λ merged. IfOk merged (λ more. more ≡ false →
+        next_trigram sides.now.older.now sides.now.newer.now progress.new.older progress.new.newer ≡ None)) }
     ensures fault { (old : Parts) → IsStored (S.model store.old) sides.now.older.now old →
         IfOk result (λ merged. IfErr merged (IsListFault (both_whole old sides.now.newer.now))) }
     ensures store { KeepsStore S.model S.size S.failed store.old store.new result }
@@ -188,19 +186,17 @@ fn merge_trigram(
     progress: &mut Progress,
 ) -> Result<(), IndexFault>
     requires ids { AreIdMaps (length sections.old.names) sides.now.runs.older sides.now.runs.newer }
-    requires next { lower_of (list_trigram (known_parts sides.now.older.now) progress.old.older)
-        (list_trigram sides.now.newer.now progress.old.newer) ≡ Some trigram }
+    requires next { next_trigram sides.now.older.now sides.now.newer.now progress.old.older progress.old.newer
+        ≡ Some trigram }
     requires left { AreLeft (known_parts sides.now.older.now).entries sides.now.newer.now.entries
         sections.old.lists progress.old.older progress.old.newer }
     ensures ok { OnOk result (IsMergedList trigram sections.old sections.new (new_ids_of sides.now.runs.older
         (old_ids sides.now.older.now progress.old.reader progress.old.older trigram).ids)
         (new_ids_of sides.now.runs.newer
         (list_ids sides.now.newer.now progress.old.newer trigram).ids) [] []) }
-    ensures fault { MatchResult result
-        (λ _. ((old_ids sides.now.older.now progress.old.reader progress.old.older trigram).whole
-        && (list_ids sides.now.newer.now progress.old.newer trigram).whole) ≡ true) (IsListFault
+    ensures fault { IsListAnswer
         ((old_ids sides.now.older.now progress.old.reader progress.old.older trigram).whole
-        && (list_ids sides.now.newer.now progress.old.newer trigram).whole)) }
+        && (list_ids sides.now.newer.now progress.old.newer trigram).whole) result }
     ensures reader { OnOk result (progress.new.reader ≡ progress.old.reader) }
     ensures older { OnOk result (progress.new.older
         ≡ position_after (known_parts sides.now.older.now) progress.old.older trigram) }
@@ -238,9 +234,12 @@ fn older_list<'a, 'b>(
         (λ fault. (fault ≡ IndexFault.BadList)
         × ((old_ids tables.now reader.now position trigram).whole ≡ false)) }
 {
+    are_valid(tables);
     if let Some((found, ids)) = reader.list_at(tables, position) {
         if found == trigram {
-            return MappedPostings::new(ids, runs);
+            if let Some((_found, again)) = reader.list_at(tables, position) {
+                return MappedPostings::new(ids, again, runs);
+            }
         }
     }
     Ok(MappedPostings::none(runs))
@@ -257,9 +256,12 @@ fn newer_list<'a, 'b>(
         (λ ids. ids ≡ new_ids_read runs.now (list_ids index.now position trigram))
         (λ fault. (fault ≡ IndexFault.BadList) × ((list_ids index.now position trigram).whole ≡ false)) }
 {
+    index.are_valid();
     if let Some((found, ids)) = index.list_at(position) {
         if found == trigram {
-            return MappedPostings::new(ids, runs);
+            if let Some((_found, again)) = index.list_at(position) {
+                return MappedPostings::new(ids, again, runs);
+            }
         }
     }
     Ok(MappedPostings::none(runs))

@@ -1,8 +1,14 @@
-use Rattle.std.proofs.Common.{rules, inl, inr, List, [], length, sym, ap, subst, ◌∙◌}
+use Rattle.std.proofs.Common.{rules, inl, inr, List, [], length, refl, sym, ap, subst, ◌∙◌}
 use Rattle.cs_merge.proofs.Common.{IsNonDecreasingBy-from_sort_by, AscendWithin, runs_ids, IsMergedList, IdRun}
 use Rattle.cs_merge.proofs.SortedRunLemmas.{has_runs, no_parts, sorted_runs_rise}
 use Rattle.cs_merge.proofs.DistinctIdLemmas.{given_sorted}
 use Rattle.cs_merge.proofs.merging_lists.merge_list.Goals as goal
+
+pub merge_ascending-requires-clause-older_rise : goal.merge_ascending-requires-clause-older_rise
+merge_ascending-requires-clause-older_rise c = c.requires.older_rise (c.if-is_increasing.ensures refl)
+
+pub merge_ascending-requires-clause-newer_rise : goal.merge_ascending-requires-clause-newer_rise
+merge_ascending-requires-clause-newer_rise c = c.requires.newer_rise (c.if-is_increasing-2.ensures refl)
 
 pub write_runs-requires-clause-rise : goal.write_runs-requires-clause-rise
 write_runs-requires-clause-rise c =

@@ -1,0 +1,57 @@
+use Rattle.std.proofs.Common.{◌≡◌, ℕ, ◌+◌, ◌-◌, ◌<◌, ◌≤◌, min, List, Option, Some, refl, sym, ap, subst, ◌∙◌, arith, slice_get}
+use Rattle.cs_merge.proofs.Common.{same_Some, cons_option, all_weaker, has, AllByRecursion, Ids, ids_onward, new_ids_of, IsFollowed, IsRunOf, none-some}
+use Rattle.cs_merge.proofs.IdRunLemmas.{has_first, is_run, still_mapped}
+use Rattle.cs_merge.proofs.ReadAheadLemmas.{followed_left, kept_ahead}
+use Rattle.cs_merge.proofs.mapped_postings.MappedPostings.shifted_run.Goals as goal
+use Rattle.cs_merge.proofs.mapped_postings.MappedPostings.shifted_run.Goals.{in-None, in-Some}
+
+pub next_stop-stop-requires : goal.next_stop-stop-requires
+next_stop-stop-requires c =
+    let s = c.self.inside in
+    let there : slice_get (cons_option s.first (new_ids_of s.runs.now s.rest.ids)) 0 ≡ Some c.args.id =
+    ap (λ (r : Ids). slice_get r.ids 0) c.self.view_is ∙ c.requires in
+    (c.self.invariant.followed.read c.args.id (has_first s.runs.now s.first s.last c.args.id s.stop s.rest s.ahead c.self.invariant there)).rise
+
+pub invariant_of-self : goal.invariant_of-self
+invariant_of-self c =
+    let s = c.self.inside in
+    let there : slice_get (cons_option s.first (new_ids_of s.runs.now s.rest.ids)) 0 ≡ Some c.args.id =
+    ap (λ (r : Ids). slice_get r.ids 0) c.self.view_is ∙ c.requires in
+    let first = has_first s.runs.now s.first s.last c.args.id s.stop s.rest s.ahead c.self.invariant there in
+    let followed = c.next_stop-stop.ensures s.rest.ids
+    (subst (λ (o : Option ℕ). IsFollowed s.runs.now o s.last s.rest.ids s.stop s.ahead.ids) first c.self.invariant.followed) in
+    still_mapped s.runs.now s.first s.last c.args.id s.stop s.rest s.ahead c.self.invariant there
+    c.next_stop-stop.result c.encoded_run.new.self c.next_stop-stop.new.ids
+    (followed_left s.runs.now s.first s.last c.next_stop-stop.result (ids_onward (s.last + 1) c.encoded_run.result)
+    c.encoded_run.new.self.ids s.rest.ids c.next_stop-stop.new.ids.ids c.encoded_run.ensures.ids
+    (subst (λ (o : Option ℕ). IsFollowed s.runs.now o s.last s.rest.ids c.next_stop-stop.result c.next_stop-stop.new.ids.ids)
+    (sym first) followed))
+
+pub returns-clause-run : goal.returns-clause-run
+returns-clause-run c =
+    let s = c.self.inside in
+    let there : slice_get (cons_option s.first (new_ids_of s.runs.now s.rest.ids)) 0 ≡ Some c.args.id =
+    ap (λ (r : Ids). slice_get r.ids 0) c.self.view_is ∙ c.requires in
+    let short : (least : ℕ) → c.args.limit ≡ Some least → c.match-limit.most ≤ s.last + (least - c.args.id) =
+    elim c.match-limit.branch [
+      | in-None w ↦ λ least e. absurd (none-some least (sym w.in-None.is ∙ e))
+      | in-Some w ↦ λ least e.
+          let same = same_Some w.in-Some.limit least (sym w.in-Some.is ∙ e) in
+          omega (arith, same, w.saturating_sub.ensures, w.saturating_add-most.ensures, w.most-is)
+    ] in
+    let all = subst (λ n. AllByRecursion (λ other. s.last + 1 + other < n) c.encoded_run.result) c.min.ensures c.encoded_run.ensures.below in
+    let first = has_first s.runs.now s.first s.last c.args.id s.stop s.rest s.ahead c.self.invariant there in
+    let followed = c.next_stop-stop.ensures s.rest.ids
+    (subst (λ (o : Option ℕ). IsFollowed s.runs.now o s.last s.rest.ids s.stop s.ahead.ids) first c.self.invariant.followed) in
+    let read = followed.read c.args.id refl in
+    subst (λ (ids : List ℕ). IsRunOf c.args.id c.args.limit c.encoded_run.result ids
+    (cons_option s.first (new_ids_of s.runs.now c.encoded_run.new.self.ids)))
+    (ap (λ (r : Ids). r.ids) c.self.view_is)
+    (is_run s.runs.now s.first s.last c.args.id s.stop s.rest s.ahead c.self.invariant there c.args.limit c.next_stop-stop.result
+    c.match-limit.most c.encoded_run.result c.encoded_run.new.self.ids
+    c.encoded_run.ensures.ids
+    (kept_ahead s.runs.now s.last c.args.id c.next_stop-stop.result c.encoded_run.result c.encoded_run.new.self.ids
+    (λ id at. read.shifted id (ap (λ xs. has xs id) c.encoded_run.ensures.ids ∙ at))
+    (all_weaker (λ other. s.last + 1 + other < min c.next_stop-stop.result c.match-limit.most)
+    (λ other. s.last + 1 + other < c.next_stop-stop.result) (λ n h. omega (arith, h)) c.encoded_run.result all))
+    all short)

@@ -6,13 +6,13 @@ pub use Rattle.cs_args.specs.declared.jobs.IndexJob.{IndexJob}
 pub use Rattle.cs_args.specs.declared.jobs.Reply.{Reply}
 pub use Rattle.cs_args.specs.declared.jobs.Reply.TheVariants.{Done, Refused}
 pub use Rattle.cs_cindex.specs.Diagnostics.{AreLines, AreLinesIn, BeginLinesIn, Diagnostic, PrintsLines, PrintsLinesPrefix, failures_in, fault_entry_line, faulted, finding_line, is_failure_line, lines_for, opening_line, skipped, text_of, walk_fault}
-pub use Rattle.cs_cindex.specs.Files.{AreAbove, AreFileLinesIn, AreTextsIn, AreTooManyIn, BeginFileLinesIn, HaveNamesOf, IsIndexingFault, PrintsFiles, PrintsFilesPrefix, are_storable, texts_at}
+pub use Rattle.cs_cindex.specs.Files.{AreAbove, AreFileLinesIn, AreTextsIn, AreTooLargeIn, BeginFileLinesIn, HaveNamesOf, IsIndexingFault, PrintsFiles, PrintsFilesPrefix, are_storable, texts_at}
 pub use Rattle.cs_cindex.specs.JobPaths.{AreCleanFault, AreCleaned, IsCleanFault, starts}
 pub use Rattle.cs_cindex.specs.Merges.{IsMergeRefusal, MergesShort, MergesTo, refusal_of}
 pub use Rattle.cs_cindex.specs.Next.{HasWholeLists, IsIndex, IsIndexOf, IsNext, IsNextLong, IsOwnIndex, IsReducedIndex, IsTreeTooLarge, alone, base_paths, merged, next_index, opening_merge, opening_paths, paths_of_job}
 pub use Rattle.cs_cindex.specs.FitTables.{IsFit, IsFitFor}
 pub use Rattle.cs_cindex.specs.Outcomes.{AnswersFor, IsStepTo, RightAfter, WalkPrintsFor}
-pub use Rattle.cs_cindex.specs.Output.{AreTooMany, IsMidway, IsSilent, JobPrintsBy, JobTree, Output, UnreadPrints, WalkPrints, WalkPrintsPrefix, WalkPrintsSome, after, before, index_lines, is_failed_write, job_tree, list_lines, output, path_lines, paths_lines}
+pub use Rattle.cs_cindex.specs.Output.{AreTooLarge, IsMidway, IsSilent, JobPrintsBy, JobTree, Output, UnreadPrints, WalkPrints, WalkPrintsPrefix, WalkPrintsSome, after, before, index_lines, is_failed_write, job_tree, list_lines, output, path_lines, paths_lines}
 pub use Rattle.cs_cindex.specs.Refusals.{EarlyOr, HasCause, IsDamaged, IsLateFault, IsOutputFault, IsWalkFault, base, base_fault, early_fault, early_fault_of, early_walk_fault, list_fault, opening_fault, unfit_parts_fault}
 pub use Rattle.cs_cindex.specs.Steps.{IsStep, IsWholeStep, Outputs, RightAll, State, Steps, job_trees, state}
 pub use Rattle.cs_cindex.specs.Verdicts.{IsVerdict, IsVerdictIn, PrintsAll, Verdict, added_entries, is_failed_verdict, noted_entries, noted_line, verdict_line, verdict_trigrams}

@@ -1,8 +1,10 @@
 -- Files, one after another: the entries and diagnostics so far.
-use Rattle.std.proofs.Common.{Ok, Err, ◌≡◌, ℕ, suc, ◌+◌, ◌^◌, ◌<◌, ◌≤◌, Bool, true, false, cond, ◌&&◌, ◌||◌, List, [], ◌∷◌, ◌++◌, map, take, drop, get_or, length, refl, sym, ap, subst, ◌∙◌, arith, Option, Some, None, append-nil, append_assoc, length-append, add-one, drop-cons, option_map, filter_map, bytes_eq, option_to_list}
-use Rattle.cs_cindex.proofs.Common.{bytes_cmp, are_ascending, AllByRecursion, cons_option, is_lt, bytes_decides, and_parts, or_left, or_right, take_at, take-append-drop, map-append, count_if, Snapshot, Grows, SinkModel, Entry, names_of, is_storable, is_above, Unnamed, TakesPrefix, Diagnostic, faulted, text_of, failures_in, Verdict, verdict_trigrams, verdict_line, IsVerdict, IsVerdictIn, is_failed_verdict, noted_line, added_entries, noted_entries, texts_at, are_storable, AreTextsIn, AreTooManyIn, AreFileLinesIn, BeginFileLinesIn, PrintsFiles, PrintsFilesPrefix, AreAbove, HaveNamesOf, tail_up, prefix_all, Grows-chain, Grows-same}
+use Rattle.std.proofs.Common.{Ok, Err, ◌≡◌, ℕ, suc, ◌+◌, ◌*◌, ◌^◌, ◌<◌, ◌≤◌, Bool, true, false, cond, ◌&&◌, ◌||◌, List, [], ◌∷◌, ◌++◌, map, take, drop, get_or, length, refl, sym, ap, subst, ◌∙◌, arith, Option, Some, None, append-nil, append_assoc, add-one, drop-cons, option_map, filter_map, bytes_eq, option_to_list}
+use Rattle.cs_cindex.proofs.Common.{bytes_cmp, are_ascending, AllByRecursion, cons_option, is_lt, bytes_decides, and_parts, or_left, or_right, take_at, take-append-drop, map-append, count_if, Snapshot, Grows, SinkModel, Entry, names_of, is_storable, is_above, Unnamed, TakesPrefix, Diagnostic, faulted, text_of, failures_in, Verdict, verdict_trigrams, verdict_line, IsVerdict, IsVerdictIn, is_failed_verdict, noted_line, added_entries, noted_entries, texts_at, are_storable, AreTextsIn, AreTooLargeIn, AreFileLinesIn, BeginFileLinesIn, PrintsFiles, PrintsFilesPrefix, AreAbove, HaveNamesOf, tail_up, prefix_all, Grows-chain, Grows-same}
 use Rattle.std.proofs.lemmas.List.Folds.{list_any-append}
 use Rattle.std.proofs.lemmas.List.Elements.{filter_map-append}
+use Rattle.cs_index.specs.LeastLength.{least_length}
+use Rattle.cs_index.proofs.writer.LeastLength.{least_append}
 use Rattle.cs_tree.specs.Cover.{is_among}
 use Rattle.cs_trigram.specs.Trigram.{set_of_numbers}
 use Rattle.cs_history.specs.FileTrigrams.{file_trigrams}
@@ -162,21 +164,33 @@ module _ (log_skip : Bool) (model : Option Snapshot) (names : List (List ℕ)) (
         prefix = subst (λ (ls : List Diagnostic). TakesPrefix (text_of (p.lines ++ ls)) sink later) (append-nil line) whole;
       }
 
--- too many names
-pub too_many : (model : Option Snapshot) (all names rest : List (List ℕ)) (entries : List Entry) → all ≡ names ++ rest →
-    AreTextsIn model names entries → 2 ^ 30 ≤ length entries → AreTooManyIn model all
-too_many None all names rest entries is are many = tt
-too_many (Some tree) all names rest entries is are many = λ storable.
+pub at_least : (most n m : ℕ) → most ≤ n → n ≤ m → most ≤ m
+at_least most n m a b = omega (arith, a, b)
+
+least_many : (entries : List Entry) → 5 * length entries ≤ least_length entries
+least_many [] = omega arith
+least_many (e ∷ entries) = let rest = least_many entries in omega (arith, rest)
+
+-- as many names as an index can have are too large
+pub full_is_large : (entries more : List Entry) → 1073741824 ≤ length entries → 4294967296 ≤ least_length (entries ++ more)
+full_is_large entries more full =
+    let long = least_append entries more in
+    let many = least_many entries in
+    omega (arith, full, long, many)
+
+-- texts whose index is too large are among all
+pub too_large : (model : Option Snapshot) (all names rest : List (List ℕ)) (entries : List Entry) → all ≡ names ++ rest →
+    AreTextsIn model names entries → 2 ^ 32 ≤ least_length entries → AreTooLargeIn model all
+too_large None all names rest entries is are large = tt
+too_large (Some tree) all names rest entries is are large = λ storable.
     let parts = storable_parts names rest (ap are_storable (sym is) ∙ storable) in
-    let same : length (texts_at tree all) ≡ length entries + length (texts_at tree rest) =
-    ap (λ ns. length (texts_at tree ns)) is
-    ∙ ap (λ (es : List Entry). length es) (filter_map-append (λ name. with_name name (file_trigrams tree name)) names rest)
-    ∙ length-append (texts_at tree names) (texts_at tree rest)
-    ∙ ap (λ (es : List Entry). length es + length (texts_at tree rest)) (sym (are parts.0)) in
-    larger (2 ^ 30) (length entries) (length (texts_at tree rest)) (length (texts_at tree all)) many same
-  where
-    larger : (most n m l : ℕ) → most ≤ n → l ≡ n + m → most ≤ l
-    larger most n m l h e = omega (arith, h, e)
+    let same : texts_at tree all ≡ entries ++ texts_at tree rest =
+    ap (texts_at tree) is
+    ∙ filter_map-append (λ name. with_name name (file_trigrams tree name)) names rest
+    ∙ ap (λ (es : List Entry). es ++ texts_at tree rest) (sym (are parts.0)) in
+    subst (λ es. 2 ^ 32 ≤ least_length es) (sym same)
+    (at_least (2 ^ 32) (least_length entries) (least_length (entries ++ texts_at tree rest)) large
+    (least_append entries (texts_at tree rest)))
 
 -- ---- sorted names
 

@@ -1,6 +1,6 @@
 -- What jobs print.
 use Rattle.std.proofs.Common.{◌≡◌, ◌≢◌, ◌⊎◌, ℕ, Bool, true, false, cond, not, List, [], ◌∷◌, ◌++◌, length, refl, sym, ap, subst, ◌∙◌, inl, inr, arith, append_assoc, append-nil, Option, Some, None, Result, Ok, Err, codes, IfErr, string_bytes, option_map}
-use Rattle.cs_cindex.proofs.Common.{Paths, option_or, true≢false, ne_eqb, eq-eqb, least, count_if, Snapshot, Grows, SinkModel, OpensAs, StoredParts, Parts, IndexFault, IndexJob, Done, Refused, CindexFault, given_paths, given_texts, TakesPrefix, PrintsLines, PrintsLinesPrefix, IsIndexingFault, JobKind, lists, clears, walks, AnswersFor, base, early_fault_of, early_walk_fault, base_fault, list_fault, opening_fault, EarlyOr, IsOutputFault, AreCleanFault, AreCleaned, starts, opening_paths, base_paths, paths_of_job, TooLarge, BadPath, Write, Memory, JobTree, Output, index_lines, path_lines, paths_lines, AreTooMany, IsMidway, WalkPrints, WalkPrintsPrefix, WalkPrintsSome, JobPrintsBy, is_failed_write, prefix_left, prefix_right, Grows-same, none-some, NoIndex, BadIndex, Unsorted, unfit_parts_fault, IsWalkFault, first_bad, has_no_path, list_all, is_normalized, are_distinct, cases_Bool, eqb-true, length-map}
+use Rattle.cs_cindex.proofs.Common.{Paths, option_or, true≢false, ne_eqb, eq-eqb, least, count_if, Snapshot, Grows, SinkModel, OpensAs, StoredParts, Parts, IndexFault, IndexJob, Done, Refused, CindexFault, given_paths, given_texts, TakesPrefix, PrintsLines, PrintsLinesPrefix, IsIndexingFault, JobKind, lists, clears, walks, AnswersFor, base, early_fault_of, early_walk_fault, base_fault, list_fault, opening_fault, EarlyOr, IsOutputFault, AreCleanFault, AreCleaned, starts, opening_paths, base_paths, paths_of_job, TooLarge, BadPath, Write, Memory, JobTree, Output, index_lines, path_lines, paths_lines, AreTooLarge, IsMidway, WalkPrints, WalkPrintsPrefix, WalkPrintsSome, JobPrintsBy, is_failed_write, prefix_left, prefix_right, Grows-same, none-some, NoIndex, BadIndex, Unsorted, unfit_parts_fault, IsWalkFault, first_bad, has_no_path, list_all, is_normalized, are_distinct, cases_Bool, eqb-true, length-map}
 use Rattle.cs_tree.specs.PathSet as set
 use Rattle.cs_index.specs.Opening.{opening}
 use Rattle.cs_index.specs.declared.fault.IndexFault.TheVariants.{BadPaths}
@@ -136,7 +136,7 @@ module _ (job : IndexJob) (tree : JobTree) (paths : Paths) (old : Option (List �
 
     -- a prefix of them, or all if the index is too large
     pub prefix_over : IsIndexingFault fault → later.failed ≡ count_if (is_failed_write fault) err.failed →
-        (fault ≡ TooLarge → AreTooMany tree.snapshot paths ⊎ Whole) → Prefix → WalkPrintsSome early fault job tree old
+        (fault ≡ TooLarge → AreTooLarge tree.snapshot paths ⊎ Whole) → Prefix → WalkPrintsSome early fault job tree old
         err later
     prefix_over only counts whole h =
         elim (cases_midway fault only counts) [

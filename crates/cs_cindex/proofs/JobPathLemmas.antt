@@ -5,7 +5,7 @@ use Rattle.std.proofs.lemmas.List.Sums.{position_or_len_is}
 use Rattle.std.specs.FinMap as map'
 use Rattle.cs_tree.specs.PathSet as set
 use Rattle.cs_tree.proofs.NormalizedLemmas.{normalized_filled, normalized_no_nul, no_nul_bytes}
-use Rattle.cs_tree.specs.declared.cleaning.PathFault.{PathFault}
+use Rattle.cs_tree.specs.declared.paths.PathFault.{PathFault}
 use Rattle.cs_tree.proofs.LeastLemmas.{IsLeast, least_says}
 use Rattle.cs_merge.proofs.ContentLemmas.{all_keys, each_of_map}
 use Rattle.cs_merge.proofs.StorableLemmas.{all_above, reduced_from}

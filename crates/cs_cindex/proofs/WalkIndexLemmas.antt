@@ -1,7 +1,7 @@
 -- The index of the files that a walk finds.
-use Rattle.std.proofs.Common.{◌+◌, ◌≡◌, ℕ, ◌*◌, ◌^◌, ◌≤◌, Bool, true, false, cond, ◌&&◌, ◌||◌, List, [], ◌∷◌, length, refl, sym, ap, subst, ◌∙◌, arith, Option, Some, None, inl, inr, nat_le, bytes_eq}
+use Rattle.std.proofs.Common.{◌≡◌, ℕ, ◌^◌, ◌≤◌, Bool, true, false, cond, ◌&&◌, ◌||◌, List, [], ◌∷◌, append-nil, length, refl, sym, ap, subst, ◌∙◌, Option, Some, None, inl, inr, nat_le, bytes_eq}
 use Rattle.cs_history.specs.JobIndex.{tree_index}
-use Rattle.cs_cindex.proofs.Common.{IsLong, IsTree, Paths, bytes_cmp, are_ascending, true≢false, and_parts, and_from, cases_Bool, list_any, list_all, cons_option, AllByRecursion, is_lt, eq_by_cmp, nat_list_cmp_total, bytes_decides, below_all, find, longest_path, is_covered, Snapshot, Item, folder, item_at, reachable_files, read_item, is_reachable, FaultEntry, Finds, FindsIn, is_among, is_file, alike, entries_in_order, from_list_all, Entry, IsString, encoding_of, names_of, Built, IsBuilt, are_paths, are_reduced, is_storable, tail_up, AreTooMany, IsIndex, IsIndexOf, IsTreeTooLarge, texts_at, are_storable, AreTextsIn, AreTooManyIn, HaveNamesOf}
+use Rattle.cs_cindex.proofs.Common.{IsLong, IsTree, Paths, bytes_cmp, are_ascending, true≢false, and_parts, and_from, cases_Bool, list_any, list_all, cons_option, AllByRecursion, is_lt, eq_by_cmp, nat_list_cmp_total, bytes_decides, below_all, find, longest_path, is_covered, Snapshot, Item, file, folder, item_at, reachable_files, read_item, is_reachable, FaultEntry, Finds, FindsIn, is_among, is_file, alike, entries_in_order, from_list_all, Entry, IsString, encoding_of, names_of, Built, IsBuilt, are_paths, are_reduced, is_storable, tail_up, AreTooLarge, IsIndex, IsIndexOf, IsTreeTooLarge, texts_at, are_storable, AreTextsIn, AreTooLargeIn, HaveNamesOf}
 use Rattle.cs_history.specs.FileTrigrams.{file_trigrams}
 use Rattle.cs_history.proofs.StartIndexLemmas.{find_all}
 use Rattle.std.specs.FinMap as map'
@@ -13,10 +13,12 @@ use Rattle.cs_trigram.specs.TrigramSets.{IsTrigramSet}
 use Rattle.cs_merge.specs.Content.{IsContent, LieUnder}
 use Rattle.cs_index.specs.Encoding.{encoding}
 use Rattle.cs_index.proofs.encoding.FileMapEncoding.{encoding_in_order, sorted_named, true_T}
-use Rattle.cs_cindex.proofs.IndexedFileLemmas.{AreAfter, ascend_after, with_name}
+use Rattle.cs_cindex.proofs.IndexedFileLemmas.{AreAfter, ascend_after, at_least, with_name}
 use Rattle.cs_cindex.proofs.WalkNameLemmas.{found_storable}
 use Rattle.cs_cindex.proofs.WalkOrderLemmas.{same_tied}
-use Rattle.cs_merge.proofs.ContentLemmas.{many_names}
+use Rattle.cs_index.specs.LeastLength.{least_length}
+use Rattle.cs_index.proofs.writer.LeastLength.{encoded_long}
+use Rattle.cs_history.proofs.TextLemmas.{text_set}
 
 -- ---- sorted texts
 
@@ -78,6 +80,26 @@ module _ (tree : Snapshot) (paths names : List (List ℕ)) (faults : List FaultE
   pub names_stored : IsTree tree → are_storable names ≡ true
   names_stored is = found_storable tree paths names faults is (and_parts (list_all is_storable paths) (are_reduced paths) ok).0 finds
 
+-- the trigrams of a text file are a set of an index
+item_set : (item : Item) (trigrams : List ℕ) → read_item (text_trigrams limits) item ≡ Some trigrams → IsTrigramSet trigrams
+item_set (file bytes) trigrams h = text_set limits bytes trigrams h
+item_set _ trigrams h = cc
+
+texts_sets : (tree : Snapshot) (names : List (List ℕ)) → AllByRecursion (λ (e : Entry). IsTrigramSet e.1) (texts_at tree names)
+texts_sets tree [] = tt
+texts_sets tree (name ∷ names) =
+    let later = texts_sets tree names in
+    elim (file_trigrams tree name) as (λ o. file_trigrams tree name ≡ o →
+    AllByRecursion (λ (e : Entry). IsTrigramSet e.1) (cons_option (with_name name o) (texts_at tree names))) [
+      | None ↦ λ e. later
+      | Some trigrams ↦ λ e. (item_set (item_at tree name) trigrams e, later)
+    ] refl
+
+least_encoded : (paths : List (List ℕ)) (entries : List Entry) → AllByRecursion (λ (e : Entry). IsTrigramSet e.1) entries →
+    least_length entries ≤ length (encoding_of paths entries)
+least_encoded paths entries sets =
+    subst (λ es. least_length entries ≤ length (encoding_of paths es)) (append-nil entries) (encoded_long paths entries [] sets)
+
 -- ---- what is built
 
 module _ (model : Option Snapshot) (paths names : List (List ℕ)) (faults : List FaultEntry)
@@ -93,35 +115,32 @@ module _ (model : Option Snapshot) (paths names : List (List ℕ)) (faults : Lis
           ap (encoding_of paths) (are (names_stored tree paths names faults ok (finds tree_is) tree_is))
           ∙ encoding_found tree paths names faults ok (finds tree_is)
 
-  -- 2^30 names take four bytes each in the name index alone
-  pub too_many : AreTooManyIn model names → IsTreeTooLarge model (set.from_list paths)
-  too_many many = by_tree model finds many
+  -- an index of more files is no shorter
+  pub too_large : AreTooLargeIn model names → IsTreeTooLarge model (set.from_list paths)
+  too_large large = by_tree model finds large
     where
-      larger : (n m : ℕ) → 2 ^ 30 ≤ n → 4 * n + 4 ≤ m → 2 ^ 32 ≤ m
-      larger n m h g = omega (arith, h, g)
-
       by_tree : (model : Option Snapshot) → FindsIn model (set.from_list paths) names faults →
-          AreTooManyIn model names → IsTreeTooLarge model (set.from_list paths)
-      by_tree None finds many = λ modelled. absurd modelled
-      by_tree (Some tree) finds many = λ tree_is.
+          AreTooLargeIn model names → IsTreeTooLarge model (set.from_list paths)
+      by_tree None finds large = λ modelled. absurd modelled
+      by_tree (Some tree) finds large = λ tree_is.
+          let entries = texts_at tree names in
           subst (λ bytes. IsLong (Some bytes)) (encoding_found tree paths names faults ok (finds tree_is))
-          (larger (length (texts_at tree names)) (length (encoding_of paths (texts_at tree names)))
-          (many (names_stored tree paths names faults ok (finds tree_is) tree_is))
-          (many_names paths (texts_at tree names)))
+          (at_least (2 ^ 32) (least_length entries) (length (encoding_of paths entries))
+          (large (names_stored tree paths names faults ok (finds tree_is) tree_is)) (least_encoded paths entries (texts_sets tree names)))
 
-  -- so there are at least as many text files as an index can have names
-  pub many_found : AreTooManyIn model names → AreTooMany model (set.from_list paths)
-  many_found many = by_tree model finds many
+  -- so the text files of the walk are too large
+  pub large_found : AreTooLargeIn model names → AreTooLarge model (set.from_list paths)
+  large_found large = by_tree model finds large
     where
       by_tree : (model : Option Snapshot) → FindsIn model (set.from_list paths) names faults →
-          AreTooManyIn model names → AreTooMany model (set.from_list paths)
-      by_tree None finds many = tt
-      by_tree (Some tree) finds many = λ tree_is.
+          AreTooLargeIn model names → AreTooLarge model (set.from_list paths)
+      by_tree None finds large = tt
+      by_tree (Some tree) finds large = λ tree_is.
           let found_here = finds tree_is in
-          subst (λ (entries : List Entry). 2 ^ 30 ≤ length entries)
+          subst (λ (entries : List Entry). 2 ^ 32 ≤ least_length entries)
           (sym (ap map'.entries (sym (texts_found tree (set.from_list paths) names faults found_here))
           ∙ entries_in_order (texts_at tree names) (true_T _ (texts_sorted tree names found_here.names_ascend))))
-          (many (names_stored tree paths names faults ok found_here tree_is))
+          (large (names_stored tree paths names faults ok found_here tree_is))
 
 -- ---- over any tree
 

@@ -1,6 +1,6 @@
 -- The diagnostics of a job: those of its walk, then those of files.
 use Rattle.std.proofs.Common.{◌≡◌, ℕ, Bool, true, List, [], ◌++◌, map, take, drop, length, refl, sym, ap, subst, ◌∙◌, arith, Option, Some, None, append-nil, append_assoc, filter_map}
-use Rattle.cs_cindex.proofs.Common.{Paths, take_at, take_all, take-append-drop, Snapshot, Grows, SinkModel, FaultEntry, FindsIn, are_alone, failures_walked, fault_entry, Grows-chain, are_paths, are_reduced, is_storable, TakesPrefix, Diagnostic, fault_entry_line, text_of, AreLinesIn, BeginLinesIn, failures_in, PrintsLines, PrintsLinesPrefix, Entry, list_all, and_parts, reduced_up, reduced_is, AreFileLinesIn, BeginFileLinesIn, AreTextsIn, AreTooManyIn, PrintsFiles, PrintsFilesPrefix, prefix_all}
+use Rattle.cs_cindex.proofs.Common.{Paths, take_at, take_all, take-append-drop, Snapshot, Grows, SinkModel, FaultEntry, FindsIn, are_alone, failures_walked, fault_entry, Grows-chain, are_paths, are_reduced, is_storable, TakesPrefix, Diagnostic, fault_entry_line, text_of, AreLinesIn, BeginLinesIn, failures_in, PrintsLines, PrintsLinesPrefix, Entry, list_all, and_parts, reduced_up, reduced_is, AreFileLinesIn, BeginFileLinesIn, AreTextsIn, AreTooLargeIn, PrintsFiles, PrintsFilesPrefix, prefix_all}
 use Rattle.cs_tree.specs.PathSet as set
 use Rattle.cs_cindex.specs.Diagnostics.{file_line}
 use Rattle.cs_tree.proofs.FaultCountLemmas.{ascending_alone}
@@ -32,9 +32,9 @@ pub texts_walked : (model model' : Option Snapshot) (names names' : List (List �
     ≡ model' → names ≡ names' → AreTextsIn model names entries → AreTextsIn model' names' entries
 texts_walked model model' names names' entries a b are = rw (← a, ← b) are
 
-pub many_walked : (model model' : Option Snapshot) (names names' : List (List ℕ)) → model ≡ model' → names ≡ names' →
-    AreTooManyIn model names → AreTooManyIn model' names'
-many_walked model model' names names' a b many = rw (← a, ← b) many
+pub large_walked : (model model' : Option Snapshot) (names names' : List (List ℕ)) → model ≡ model' → names ≡ names' →
+    AreTooLargeIn model names → AreTooLargeIn model' names'
+large_walked model model' names names' a b large = rw (← a, ← b) large
 
 module _ (log_skip : Bool) (model : Option Snapshot) (paths names : List (List ℕ)) (faults : List FaultEntry)
     (ok : are_paths paths ≡ true) (finds : FindsIn model (set.from_list paths) names faults) where

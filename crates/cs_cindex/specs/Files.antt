@@ -1,5 +1,5 @@
 -- The entries and diagnostics of the files that are indexed.
-use Rattle.std.specs.Prelude.{◌≡◌, ℕ, ◌≤◌, Bool, true, List, length, take, Option, Some, None, filter_map}
+use Rattle.std.specs.Prelude.{◌≡◌, ℕ, ◌≤◌, ◌^◌, Bool, true, List, length, take, Option, Some, None, filter_map}
 use Rattle.std.specs.List.{list_all, AllByRecursion}
 use Rattle.cs_tree.specs.Cover.{is_among}
 use Rattle.cs_tree.specs.Reachability.{with_values}
@@ -8,7 +8,7 @@ use Rattle.cs_tree.specs.Sinks.{SinkModel, Grows}
 use Rattle.cs_tree.specs.TakesPrefix.{TakesPrefix}
 use Rattle.cs_index.specs.Encoding.{Entry, names_of}
 use Rattle.cs_index.specs.Built.{is_storable, is_above}
-use Rattle.cs_index.specs.MaxNames.{max_names}
+use Rattle.cs_index.specs.LeastLength.{least_length}
 use Rattle.cs_args.specs.declared.fault.CindexFault.{CindexFault}
 use Rattle.cs_args.specs.declared.fault.CindexFault.TheVariants.{TooLarge, Write, Memory}
 use Rattle.cs_history.specs.FileTrigrams.{file_trigrams}
@@ -30,10 +30,10 @@ AreTextsIn (Some tree) names entries = are_storable names ≡ true → entries �
 abbrev pub HaveNamesOf : List (List ℕ) → List Entry → Type 0
 HaveNamesOf names entries = AllByRecursion (λ (entry : Entry). is_among names entry.0 ≡ true) entries
 
--- There are at least as many text files at these names as an index can have names.
-abbrev pub AreTooManyIn : Option Snapshot → List (List ℕ) → Type 0
-AreTooManyIn None names = Unit {0}
-AreTooManyIn (Some tree) names = are_storable names ≡ true → max_names ≤ length (texts_at tree names)
+-- An index of the text files at these names has 2^32 bytes, whatever is added.
+abbrev pub AreTooLargeIn : Option Snapshot → List (List ℕ) → Type 0
+AreTooLargeIn None names = Unit {0}
+AreTooLargeIn (Some tree) names = are_storable names ≡ true → 2 ^ 32 ≤ least_length (texts_at tree names)
 
 -- The diagnostics are those of the files at these names.
 abbrev pub AreFileLinesIn : Bool → Option Snapshot → List (List ℕ) → List Diagnostic → Type 0

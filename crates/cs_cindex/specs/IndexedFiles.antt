@@ -1,8 +1,8 @@
 -- What indexing some files answers and leaves.
-use Rattle.std.specs.Prelude.{◌≡◌, ◌≤◌, ◌⊎◌, ◌++◌, ℕ, Bool, List, length, Some, IfOk, IfErr, OnOk, MatchResult, Result, Err, option_to_list}
+use Rattle.std.specs.Prelude.{◌≡◌, ◌≤◌, ◌^◌, ◌⊎◌, ◌++◌, ℕ, Bool, List, Some, IfOk, IfErr, OnOk, MatchResult, Result, Err, option_to_list}
 use Rattle.cs_tree.specs.FailureCount.{count_after}
 use Rattle.cs_index.specs.Built.{Built, IsBuilt}
-use Rattle.cs_index.specs.MaxNames.{max_names}
+use Rattle.cs_index.specs.LeastLength.{least_length}
 use Rattle.cs_index.specs.Encoding.{Entry, encoding_of}
 use Rattle.cs_args.specs.declared.fault.CindexFault.{CindexFault}
 use Rattle.cs_args.specs.declared.fault.CindexFault.TheVariants.{TooLarge, Memory}
@@ -10,7 +10,7 @@ use Rattle.cs_output.specs.declared.output.Sent.{Sent}
 use Rattle.cs_history.specs.Premises.{IsShort}
 use Rattle.cs_history.specs.Replies.{IsLong}
 use Rattle.cs_cindex.specs.Effects.{Effects}
-use Rattle.cs_cindex.specs.Files.{AreTextsIn, AreTooManyIn, HaveNamesOf, IsIndexingFault, PrintsFiles, PrintsFilesPrefix}
+use Rattle.cs_cindex.specs.Files.{AreTextsIn, AreTooLargeIn, HaveNamesOf, IsIndexingFault, PrintsFiles, PrintsFilesPrefix}
 use Rattle.cs_cindex.specs.Output.{Output, is_failed_write}
 use Rattle.cs_cindex.specs.Verdicts.{PrintsAll, Verdict, noted_entries, noted_line}
 
@@ -19,7 +19,7 @@ abbrev pub NotesFile : {A : Type 0} → Bool → List ℕ → Verdict → List E
 NotesFile log_skip name verdict old new err later result =
     OnOk result (new ≡ old ++ noted_entries name verdict)
     × PrintsAll (option_to_list (noted_line log_skip name verdict)) err.model later.model result
-    × (result ≡ Err TooLarge → max_names ≤ length old)
+    × (result ≡ Err TooLarge → 2 ^ 32 ≤ least_length (old ++ noted_entries name verdict))
     × (later.failed ≡ count_after is_failed_write result err.failed)
     × IfErr result IsIndexingFault
 
@@ -27,7 +27,7 @@ NotesFile log_skip name verdict old new err later result =
 abbrev pub IsFileFailure : Bool → List (List ℕ) → Effects → CindexFault → Type 0
 IsFileFailure log_skip names to fault =
     IsIndexingFault fault
-    × (fault ≡ TooLarge → AreTooManyIn to.tree.snapshot names)
+    × (fault ≡ TooLarge → AreTooLargeIn to.tree.snapshot names)
     × PrintsFilesPrefix log_skip to.tree.snapshot names to.tree.failed to.tree.failed_then to.err.model to.later.model
 
 -- The entries are those of the files at these names, whose diagnostics were printed.

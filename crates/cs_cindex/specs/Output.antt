@@ -1,5 +1,5 @@
 -- What a job prints. docs/PROMISES.md, "Jobs of cindex".
-use Rattle.std.specs.Prelude.{◌≡◌, ◌≤◌, ◌⊎◌, ℕ, length, List, [], ◌++◌, codes, Option, Some, None, Result, Ok, Err, Bool, true, false, flat_map}
+use Rattle.std.specs.Prelude.{◌≡◌, ◌≤◌, ◌^◌, ◌⊎◌, ℕ, List, [], ◌++◌, codes, Option, Some, None, Result, Ok, Err, Bool, true, false, flat_map}
 use Rattle.cs_tree.specs.Snapshot.{Snapshot}
 use Rattle.cs_tree.specs.Sinks.{SinkModel, Grows}
 use Rattle.cs_tree.specs.Failures.{next_count}
@@ -7,7 +7,7 @@ use Rattle.cs_tree.specs.Folders.{IsTree}
 use Rattle.cs_tree.specs.PathSet.{Paths}
 use Rattle.cs_tree.specs.Reachability.{reachable_files}
 use Rattle.cs_trigram.specs.Text.{limits, text_trigrams}
-use Rattle.cs_index.specs.MaxNames.{max_names}
+use Rattle.cs_index.specs.LeastLength.{least_length}
 use Rattle.std.specs.FinMap as map'
 use Rattle.cs_index.specs.Opening.{opening}
 use Rattle.cs_index.specs.OpenedParts.{Parts}
@@ -16,7 +16,7 @@ use Rattle.cs_args.specs.declared.jobs.IndexJob.{IndexJob}
 use Rattle.cs_args.specs.declared.jobs.Reply.{Reply}
 use Rattle.cs_args.specs.declared.jobs.Reply.TheVariants.{Done, Refused}
 use Rattle.cs_args.specs.declared.fault.CindexFault.{CindexFault}
-use Rattle.cs_args.specs.declared.fault.CindexFault.TheVariants.{NoIndex, BadIndex, Unsorted, TooLarge, BadPath, Write, Memory}
+use Rattle.cs_args.specs.declared.fault.CindexFault.TheVariants.{TooLarge, Write, Memory}
 use Rattle.cs_tree.specs.TakesPrefix.{TakesPrefix}
 use Rattle.cs_cindex.specs.Diagnostics.{PrintsLines, PrintsLinesPrefix}
 use Rattle.cs_cindex.specs.Next.{paths_of_job}
@@ -81,25 +81,22 @@ abbrev pub WalkPrintsPrefix : IndexJob → JobTree → Option (List ℕ) → Out
 WalkPrintsPrefix job tree old err later =
     PrintsLinesPrefix job.log_skip tree.snapshot (paths_of_job job old) tree.failed tree.failed_then err.model later.model
 
--- A walk finds at least as many text files as an index can have names. Its index would be too large in any case.
-abbrev pub AreTooMany : Option Snapshot → Paths → Type 0
-AreTooMany None paths = Unit {0}
-AreTooMany (Some tree) paths =
-    IsTree tree → max_names ≤ length (map'.entries (reachable_files (text_trigrams limits) tree paths))
+-- An index of the text files that a walk finds has 2^32 bytes, whatever is added: it need not be made to know that.
+abbrev pub AreTooLarge : Option Snapshot → Paths → Type 0
+AreTooLarge None paths = Unit {0}
+AreTooLarge (Some tree) paths =
+    IsTree tree → 2 ^ 32 ≤ least_length (map'.entries (reachable_files (text_trigrams limits) tree paths))
 
 -- nothing was printed on standard error, and no call of the tree failed
 abbrev pub IsSilent : JobTree → Output → Output → Type 0
 IsSilent tree err later = Grows err.model later.model [] × (tree.failed_then ≡ tree.failed)
 
--- errors that may come while diagnostics are printed: `err` failed, out of memory, or too many text files
+-- errors that may come while diagnostics are printed: `err` failed, out of memory, or text files that are too large for an index
 abbrev pub IsMidway : CindexFault → Option Snapshot → Paths → Output → Output → Type 0
 IsMidway Write tree paths err later = later.failed ≡ next_count err.failed
 IsMidway Memory tree paths err later = Unit {0}
-IsMidway TooLarge tree paths err later = AreTooMany tree paths
-IsMidway NoIndex tree paths err later = ⊥
-IsMidway (BadIndex fault) tree paths err later = ⊥
-IsMidway Unsorted tree paths err later = ⊥
-IsMidway (BadPath path_index) tree paths err later = ⊥
+IsMidway TooLarge tree paths err later = AreTooLarge tree paths
+IsMidway _ tree paths err later = ⊥
 
 -- After an early error nothing was printed; after another error all diagnostics, or a prefix of them if it came
 -- midway. So if `out` failed, which is flushed at the end, all of them were printed.

@@ -14,7 +14,7 @@ use Rattle.cs_cindex.specs.Effects.{Effects, PrintsWalk, PrintsWalkPrefix}
 use Rattle.cs_cindex.specs.Files.{IsIndexingFault}
 use Rattle.cs_cindex.specs.Next.{IsIndex, IsIndexOf, IsNext, IsTreeTooLarge}
 use Rattle.cs_cindex.specs.Outcomes.{AnswersFor, WalkPrintsFor}
-use Rattle.cs_cindex.specs.Output.{AreTooMany, UnreadPrints, is_failed_write}
+use Rattle.cs_cindex.specs.Output.{AreTooLarge, UnreadPrints, is_failed_write}
 use Rattle.cs_cindex.specs.Refusals.{IsWalkFault}
 
 -- ---- of some paths
@@ -24,12 +24,12 @@ use Rattle.cs_cindex.specs.Refusals.{IsWalkFault}
 abbrev pub IsWalkIndex : Option Snapshot → Paths → List ℕ → Type 0
 IsWalkIndex tree paths bytes = IsIndexOf tree paths bytes × IsIndex paths bytes × IsShort (Some bytes)
 
--- Why there is no such index. If it would be too large, all diagnostics were printed, unless there are too many files.
+-- Why there is no such index. If it would be too large, all diagnostics were printed, unless that was certain before.
 abbrev pub IsWalkFailure : Bool → Paths → Effects → CindexFault → Type 0
 IsWalkFailure log_skip paths to fault =
     IsIndexingFault fault
     × (fault ≡ TooLarge → IsTreeTooLarge to.tree.snapshot paths)
-    × (fault ≡ TooLarge → AreTooMany to.tree.snapshot paths ⊎ PrintsWalk log_skip paths to)
+    × (fault ≡ TooLarge → AreTooLarge to.tree.snapshot paths ⊎ PrintsWalk log_skip paths to)
     × PrintsWalkPrefix log_skip paths to
 
 -- The answer has the bytes of the index of a walk from the paths, and its diagnostics were printed.

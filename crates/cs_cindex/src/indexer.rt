@@ -1,10 +1,11 @@
 // The index of the files below some paths: reads the files that a walk finds, and adds them one
 // after the other.
-ghost use Rattle.std.specs.Prelude.{◌≡◌, true, [], map, string_bytes, IfOk, IfErr};
+ghost use Rattle.std.specs.Prelude.{◌≡◌, ◌<◌, ◌≤◌, ◌^◌, true, [], map, string_bytes, IfOk, IfErr, OnOk, MatchResult};
 ghost use Rattle.cs_tree.specs.NamesAscending.{are_ascending};
 ghost use Rattle.cs_tree.specs.Walks.{AreWithinPathLimit};
 ghost use Rattle.cs_index.specs.Built.{are_paths, is_above};
 ghost use Rattle.cs_index.specs.Encoding.{names_of};
+ghost use Rattle.cs_index.specs.LeastLength.{least_length};
 ghost use Rattle.cs_cindex.specs.Effects.{effects};
 ghost use Rattle.cs_cindex.specs.IndexedFiles.{FinishesIndex, IndexesFiles, NotesFile};
 ghost use Rattle.cs_cindex.specs.Output.{output};
@@ -86,7 +87,7 @@ impl Indexer {
     }
 
     /// Reads the files at the names, adds those that are text, and prints a diagnostic for each
-    /// other one.
+    /// other one. `TooLarge` as soon as the index is too large, whatever is added to it.
     pub(crate) fn index_files<T: Tree, E: Sink>(
         &mut self,
         tree: &mut T,
@@ -99,6 +100,7 @@ impl Indexer {
         ensures indexes { IndexesFiles self.old.log_skip
             (map string_bytes names.now) self.new.builder.entries
             (effects T.snapshot T.failed E.model E.failed tree.old tree.new err.old err.new) result }
+        ensures small { OnOk result (least_length self.new.builder.entries < 2 ^ 32) }
         ensures paths { self.new.builder.paths ≡ self.old.builder.paths }
         ensures tree { ReadsFiles T.snapshot T.longest_requested T.read_counts tree.old tree.new }
     {
@@ -122,12 +124,14 @@ impl Indexer {
         ensures notes { NotesFile self.old.log_skip name.now verdict.entry
             self.old.builder.entries self.new.builder.entries
             (output E.model E.failed err.old) (output E.model E.failed err.new) result }
+        ensures small { OnOk result (least_length self.old.builder.entries < 2 ^ 32 →
+            least_length self.new.builder.entries < 2 ^ 32) }
         ensures paths { self.new.builder.paths ≡ self.old.builder.paths }
         ensures log_skip { self.new.log_skip ≡ self.old.log_skip }
     {
         match verdict {
             Ok(Scan::Text { trigrams, .. }) => match self.builder.add(name, trigrams) {
-                Ok(_) => Ok(()),
+                Ok(_) => self.check_size(),
                 Err(BuildFault::BadName) => print_fault(self.alloc, name, FileFault::Unnamed, err),
                 Err(BuildFault::TooLarge) => Err(CindexFault::TooLarge),
                 Err(BuildFault::Memory) => Err(CindexFault::Memory),
@@ -137,6 +141,17 @@ impl Indexer {
             Ok(Scan::Skip(_)) => Ok(()),
             Err(fault) => print_fault(self.alloc, name, fault, err),
         }
+    }
+
+    /// `TooLarge` if the index is too large, whatever is added to it.
+    fn check_size(&self) -> Result<(), CindexFault>
+        ensures { MatchResult result (λ _. least_length self.now.builder.entries < 2 ^ 32)
+            (λ fault. (fault ≡ CindexFault.TooLarge) × (2 ^ 32 ≤ least_length self.now.builder.entries)) }
+    {
+        if self.builder.is_too_large() {
+            return Err(CindexFault::TooLarge);
+        }
+        Ok(())
     }
 
     /// Sends the index of the added files to `new`.

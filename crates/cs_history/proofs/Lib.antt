@@ -5,11 +5,11 @@ pub mod IndexLemmas
 pub mod JobLemmas
 pub mod MergedHistoryLemmas
 pub mod ReplyLemmas
+pub mod TextLemmas
 mod Common
 mod CleanedPathLemmas
 mod Examples
 mod PathElementLemmas
 mod PairListLemmas
 mod ShardLemmas
-mod TextLemmas
 mod WalkLemmas

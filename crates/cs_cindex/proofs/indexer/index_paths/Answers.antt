@@ -6,8 +6,8 @@ use Rattle.cs_cindex.specs.IndexedFiles.{FinishesIndex}
 use Rattle.cs_cindex.specs.WalkAnswers.{IndexesWalk, IsWalkIndex}
 use Rattle.cs_cindex.proofs.ReadLemmas.{tree_kept, tree_read, tree_walked}
 use Rattle.cs_cindex.proofs.WalkAnswerLemmas.{end_fault, end_written, nothing_walked, output_failure, walk_failed}
-use Rattle.cs_cindex.proofs.WalkIndexLemmas.{index_built, index_is, lies_under, many_found, too_many}
-use Rattle.cs_cindex.proofs.WalkOutputLemmas.{files_prefix, many_walked, prefix_files, prefix_left, prefix_whole, texts_walked, walk_printed}
+use Rattle.cs_cindex.proofs.WalkIndexLemmas.{index_built, index_is, lies_under, large_found, too_large}
+use Rattle.cs_cindex.proofs.WalkOutputLemmas.{files_prefix, large_walked, prefix_files, prefix_left, prefix_whole, texts_walked, walk_printed}
 use Rattle.cs_cindex.proofs.indexer.index_paths.Goals as goal
 
 -- the built encoding is that of the given paths
@@ -127,10 +127,10 @@ returns-in_err-index_files-clause-walk g c =
     walk_failed (λ (sent : Sent). sent.bytes) c.args.log_skip paths to c.from_residual-in_err-index_files.result
     p.0 fault p.1 p.2 (
       part.0.0,
-      (λ e. too_many _ _ _ left c.requires c.in_ok-walked.ensures.finds
-          (many_walked _ _ _ _ c.walk.ensures.keeps names (part.0.1 e))),
-      (λ e. inl (many_found _ _ _ left c.requires c.in_ok-walked.ensures.finds
-          (many_walked _ _ _ _ c.walk.ensures.keeps names (part.0.1 e)))),
+      (λ e. too_large _ _ _ left c.requires c.in_ok-walked.ensures.finds
+          (large_walked _ _ _ _ c.walk.ensures.keeps names (part.0.1 e))),
+      (λ e. inl (large_found _ _ _ left c.requires c.in_ok-walked.ensures.finds
+          (large_walked _ _ _ _ c.walk.ensures.keeps names (part.0.1 e)))),
       prefix_files _ _ _ _ _ c.requires c.in_ok-walked.ensures.finds _ _ _ _ c.in_ok-walked.ensures.complete _ _
           printed files,
     )

@@ -1,9 +1,10 @@
-use Rattle.std.proofs.Common.{◌≡◌, ◌∙◌, ◌+◌, ◌++◌, Err, refl, sym, ap, subst, map, string_bytes, take, drop, true, List}
+use Rattle.std.proofs.Common.{◌≡◌, ◌∙◌, ◌+◌, ◌++◌, ◌<◌, ◌≤◌, ◌^◌, Err, refl, sym, ap, subst, map, string_bytes, take, drop, true, List, arith}
+use Rattle.cs_index.specs.LeastLength.{least_length}
 use Rattle.cs_cindex.proofs.Common.{take_all, err_from_is_err_and, count_if, is_failed_write, Grows, AreWithinPathLimit, Memory, names_of, is_above, TakesPrefix, Diagnostic, text_of, noted_entries, AreTextsIn, AreAbove, HaveNamesOf, PrintsFiles}
 use Rattle.cs_tree.proofs.NameLemmas.{mapped_more}
 use Rattle.cs_cindex.specs.Effects.{effects}
 use Rattle.cs_cindex.specs.ReadsFiles.{ReadsFile}
-use Rattle.cs_cindex.proofs.IndexedFileLemmas.{names_at, names_rest, verdict_in_at, noted_at, texts_none, prints_none, above_none, texts_next, names_next, prints_step, above_next, above_first, ascend_next, prefix_read, prefix_noted, too_many}
+use Rattle.cs_cindex.proofs.IndexedFileLemmas.{names_at, names_rest, verdict_in_at, noted_at, texts_none, prints_none, above_none, texts_next, names_next, prints_step, above_next, above_first, ascend_next, prefix_read, prefix_noted, too_large}
 use Rattle.cs_cindex.proofs.ReadLemmas.{files_read, files_unread}
 use Rattle.cs_cindex.proofs.WalkAnswerLemmas.{files_failed, memory_failure, no_file_walked}
 use Rattle.cs_cindex.proofs.indexer.Indexer.index_files.Goals as goal
@@ -29,6 +30,7 @@ loop-name-init g c = record {
   names = subst (HaveNamesOf (map string_bytes (take 0 c.args.names.now))) (sym c.requires.empty) tt;
   prints = prints_none c.args.self.now.log_skip (g.T.Tree.snapshot c.args.tree.now) (g.T.Tree.failed c.args.tree.now)
       (g.E.Sink.model c.args.err.now);
+  small = subst (λ entries. least_length entries < 2 ^ 32) (sym c.requires.empty) (omega arith);
   ascend = c.requires.ascend;
   above = subst (λ entries. AreAbove entries (map string_bytes c.args.names.now)) (sym c.requires.empty)
       (above_none (map string_bytes c.args.names.now));
@@ -92,14 +94,22 @@ returns-in_err-note-clause-indexes g c =
     let later = g.E.Sink.model c.note.new.err in
     let fault = c.in_err-note.field-0.0 in
     let noted = c.in_err-note.ensures.notes in
+    let entries = c.loop-name.self.builder.entries in
     let to = effects g.T.Tree.snapshot g.T.Tree.failed g.E.Sink.model g.E.Sink.failed c.args.tree.now c.read_file.new.tree
     c.args.err.now c.note.new.err in
     files_failed c.args.self.now.log_skip (map string_bytes names) c.note.new.self.builder.entries to
     c.from_residual-in_err-note.result p.0 fault p.1 p.2 (
       noted.4,
-      (λ e. too_many model (map string_bytes names) (map string_bytes (take at names))
-          (map string_bytes (drop at names)) c.loop-name.self.builder.entries (names_at string_bytes names at)
-          i.texts (noted.2 (ap Err e))),
+      (λ e. too_large model (map string_bytes names) (map string_bytes (take (at + 1) names))
+          (map string_bytes (drop (at + 1) names)) (entries ++ noted_entries (string_bytes item) verdict)
+          (names_at string_bytes names (at + 1))
+          (texts_next model (map string_bytes (take at names)) (map string_bytes (take (at + 1) names)) entries
+          (entries ++ noted_entries (string_bytes item) verdict) (string_bytes item) verdict
+          (mapped_more string_bytes names at item c.loop-name-test.true c.name-item.is) refl i.texts
+          (verdict_in_at (g.T.Tree.snapshot c.loop-name.tree) model c.as_str.result.now (string_bytes item) verdict
+          i.tree.2 c.as_str.ensures.value c.in_ok-verdict.ensures.model))
+          (subst (λ n. 2 ^ 32 ≤ least_length (entries ++ noted_entries n verdict)) c.as_str-in-loop-name.ensures.value
+          (noted.2 (ap Err e)))),
       prefix_noted c.args.self.now.log_skip model (map string_bytes (take at names)) (g.T.Tree.failed c.args.tree.now)
           (g.T.Tree.failed c.loop-name.tree) (g.T.Tree.failed c.read_file.new.tree)
           (g.E.Sink.model c.args.err.now) now i.prints later (map string_bytes names) rest (string_bytes item) verdict
@@ -158,6 +168,7 @@ loop-name-preserved g c =
           (g.T.Tree.failed c.read_file.new.tree)
           (g.E.Sink.model c.args.err.now) (g.E.Sink.model c.loop-name.err) i.prints (g.E.Sink.model c.note.new.err) name
           verdict is c.in_ok-verdict.ensures.counted printed);
+      small = c.in_ok-note.ensures.small i.small;
       ascend = ascend_next (map string_bytes (drop at names)) (map string_bytes (drop (at + 1) names)) name rest i.ascend;
       above = above_next entries c.note.new.self.builder.entries (map string_bytes (drop at names))
           (map string_bytes (drop (at + 1) names)) name verdict rest added i.ascend i.above;

@@ -1,4 +1,5 @@
-use Rattle.std.proofs.Common.{◌≡◌, true, map, string_bytes, take, drop}
+use Rattle.std.proofs.Common.{◌≡◌, ◌<◌, ◌^◌, true, map, string_bytes, take, drop}
+use Rattle.cs_index.specs.LeastLength.{least_length}
 use Rattle.cs_cindex.proofs.Common.{AreWithinPathLimit, are_ascending, AreTextsIn, AreAbove, HaveNamesOf, PrintsFiles}
 use Rattle.cs_cindex.specs.ReadsFiles.{ReadsFiles}
 use Rattle.cs_cindex.proofs.indexer.Indexer.index_files.Given as goal
@@ -10,6 +11,7 @@ invariant-loop-name g l = record {
   prints : PrintsFiles l.initial.self.log_skip (g.T.Tree.snapshot l.initial.tree)
       (map string_bytes (take l.name-index l.names)) (g.T.Tree.failed l.initial.tree) (g.T.Tree.failed l.tree)
       (g.E.Sink.model l.initial.err) (g.E.Sink.model l.err);
+  small : least_length l.self.builder.entries < 2 ^ 32;
   ascend : are_ascending (map string_bytes (drop l.name-index l.names)) ≡ true;
   above : AreAbove l.self.builder.entries (map string_bytes (drop l.name-index l.names));
   paths : l.self.builder.paths ≡ l.initial.self.builder.paths;

@@ -13,7 +13,7 @@ use Rattle.cs_tree.specs.NameOrder.{bytes_cmp}
 use Rattle.cs_tree.specs.NamesAscending.{are_ascending}
 use Rattle.cs_tree.specs.Reachability.{read_item}
 use Rattle.cs_tree.specs.Snapshot.{Item, file}
-use Rattle.cs_tree.specs.declared.look.Stamp.{Stamp}
+use Rattle.cs_tree.specs.declared.tree.Stamp.{Stamp}
 use Rattle.cs_tree.proofs.PathSetLemmas.{tied_is, tied_same}
 use Rattle.cs_trigram.specs.Text.{limits, text_trigrams}
 use Rattle.cs_index.specs.Encoding.{Entry, Files, names_of}

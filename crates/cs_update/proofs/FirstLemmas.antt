@@ -11,7 +11,7 @@ use Rattle.cs_tree.specs.NameOrder.{bytes_cmp}
 use Rattle.cs_tree.specs.NamesAscending.{are_ascending}
 use Rattle.cs_tree.specs.PathSet.{Paths}
 use Rattle.cs_tree.specs.Snapshot.{Snapshot}
-use Rattle.cs_tree.specs.declared.look.Stamp.{Stamp}
+use Rattle.cs_tree.specs.declared.tree.Stamp.{Stamp}
 use Rattle.cs_tree.proofs.PathSetLemmas.{entries_in_order, items_in_order}
 use Rattle.cs_trigram.specs.TrigramSets.{IsTrigramSet}
 use Rattle.cs_index.specs.Built.{Built, IsBuilt, file_map, path_set}

@@ -9,7 +9,7 @@ use Rattle.std.proofs.lemmas.Bool.{true≢false}
 use Rattle.cs_tree.specs.Cover.{is_absolute}
 use Rattle.cs_tree.specs.Elements.{has_nul}
 use Rattle.cs_tree.specs.Snapshot.{Item}
-use Rattle.cs_tree.specs.declared.look.Stamp.{Stamp}
+use Rattle.cs_tree.specs.declared.tree.Stamp.{Stamp}
 use Rattle.cs_index.specs.Encoding.{Entry}
 use Rattle.cs_state.specs.Known.{Known}
 use Rattle.cs_state.specs.Others.{other_of}

@@ -1,5 +1,5 @@
 -- The old state of an update, and its merge.
-use Rattle.std.proofs.Common.{◌≡◌, ◌∙◌, ℕ, zero, suc, ◌+◌, ◌*◌, ◌<◌, ◌≤◌, ◌^◌, Bool, true, List, [], ◌∷◌, ◌++◌, length, map, append_assoc, refl, sym, ap, subst, arith, Some, inl, inr, take, T}
+use Rattle.std.proofs.Common.{◌≡◌, ◌∙◌, ℕ, zero, suc, ◌+◌, ◌*◌, ◌<◌, ◌≤◌, ◌^◌, Bool, true, List, [], ◌∷◌, ◌++◌, length, map, append_assoc, refl, sym, ap, subst, arith, Option, Some, inl, inr, take, T}
 use Rattle.std.specs.Prelude.{slice_get}
 use Rattle.std.specs.List.{AllByRecursion, flat_map, list_all, zip}
 use Rattle.std.proofs.Math.Seq.{drop-append-add}
@@ -8,25 +8,31 @@ use Rattle.cs_tree.specs.Cover.{is_covered}
 use Rattle.cs_tree.specs.NamesAscending.{are_ascending}
 use Rattle.cs_tree.specs.PathSet.{Paths}
 use Rattle.cs_tree.specs.Store.{part_of}
-use Rattle.cs_tree.specs.declared.look.Stamp.{Stamp}
+use Rattle.cs_tree.specs.declared.tree.Stamp.{Stamp}
 use Rattle.cs_tree.proofs.PathSetLemmas.{entries_in_order}
 use Rattle.cs_index.specs.Built.{Built, IsBuilt, file_map, path_set}
 use Rattle.cs_index.specs.Decoding.{DecodesAs}
 use Rattle.cs_index.specs.Encoding.{Entry, encoding, encoding_of, names_of}
 use Rattle.cs_index.specs.OpenedParts.{Parts, are_covered, are_whole, files_in, paths_in}
+use Rattle.cs_index.specs.Stored.{StoredParts}
 use Rattle.cs_index.proofs.decoding.DecodingIsUnique.{decoding_is_unique}
 use Rattle.cs_index.proofs.encoding.FileMapEncoding.{sorted_named}
 use Rattle.cs_known.specs.IndexedFiles.{text_known}
-use Rattle.cs_known.proofs.StateLemmas.{stamp_there}
+use Rattle.cs_known.proofs.StateLemmas.{own_lengths, stamp_there}
 use Rattle.cs_merge.specs.Content.{DecodesAsContent}
 use Rattle.cs_merge.specs.Merge.{merge_files, merge_paths}
 use Rattle.cs_merge.specs.MergeResult.{IsMerged}
 use Rattle.cs_merge.proofs.ContentLemmas.{content_merged}
 use Rattle.cs_merge.proofs.DecodedContentLemmas.{content_decodes, decoded_content, decoded_names}
 use Rattle.cs_state.specs.Known.{IsListed, Known, ProjectState}
+use Rattle.cs_state.specs.OpenedStates.{HasIndex}
 use Rattle.cs_state.specs.ProjectStates.{HasNumbers, IsState, indexed_files}
+use Rattle.cs_state.specs.StampReaders.{ReadsStamps}
 use Rattle.cs_state.specs.StateFile.{body_of, other_bytes, stamp_bytes}
+use Rattle.cs_state.specs.declared.state_lengths.StateLengths.{StateLengths}
 use Rattle.cs_update.specs.MergedLists.{Stamped}
+use Rattle.cs_update.specs.OldTexts.{HasStamps}
+use Rattle.cs_update.specs.declared.old_texts.OldTexts.{OldTexts}
 use Rattle.cs_update.proofs.FirstLemmas.{built_content, built_decodes}
 
 -- ---- the stamps of a state
@@ -64,6 +70,23 @@ module _ (bytes : List ℕ) (old : ProjectState) (is : IsState bytes old) where
   pub pairs_listed : AllByRecursion (λ (one : Stamped). IsListed (text_known one.0 one.1) old.known) (zip old.parts.names is.stamps)
   pairs_listed = listed_pairs old.known is.others old.parts.names is.stamps (λ one listed. subst (IsListed one) (sym is.known) listed)
 
+  -- the names of an open state with its stamps
+  pub texts_open : (model : Option (List ℕ)) (lengths : StateLengths) (stored : StoredParts) → HasIndex bytes model lengths stored →
+      (texts : OldTexts) → texts.names ≡ old.parts.names →
+      ReadsStamps (body_of is.index is.stamps is.others) lengths.index (lengths.index + lengths.stamps) texts.stamps →
+      HasStamps (body_of is.index is.stamps is.others) is.stamps texts
+  texts_open model lengths stored has texts names reads =
+      let body = body_of is.index is.stamps is.others in
+      let start : lengths.index ≡ length is.index = ap (λ (l : StateLengths). l.index) (own_lengths bytes old is lengths has.form) in
+      record {
+        start = lengths.index;
+        end = lengths.index + lengths.stamps;
+        reads = reads;
+        count = is.count ∙ sym (ap length names);
+        at = subst (λ n. (id : ℕ) (stamp : Stamp) → slice_get is.stamps id ≡ Some stamp →
+            (part_of body (n + 40 * id) 40 ≡ stamp_bytes stamp) × HasNumbers stamp) (sym start) stamps_at;
+      }
+
 -- ---- the merged index
 
 all_true : (test : List ℕ → Bool) (xs : List (List ℕ)) → list_all test xs ≡ true → AllByRecursion (λ x. test x ≡ true) xs
@@ -75,16 +98,17 @@ unfolding are_covered
 covered_names parts covered = all_true (is_covered (paths_in parts)) parts.names covered
 
 -- The merged index of an old state and what was built.
-pub record IsMergedIndex (built : Built) (old : Parts) (bytes : List ℕ) : Type 0 where
+pub record IsMergedIndex (built : Built) (newer old : Parts) (bytes : List ℕ) : Type 0 where
   pub all_paths : Paths
   pub decoding : DecodesAsContent bytes all_paths (merge_files (path_set built) (files_in old) (file_map built))
   pub covered : AllByRecursion (λ name. is_covered (path_set built) name ≡ true) (names_of built.entries)
+  pub names : newer.names ≡ names_of built.entries
   pub short : length bytes < 2 ^ 32
 
 pub merged_index : (built : Built) → IsBuilt built → (own old_index bytes : List ℕ) (parts newer old : Parts) →
     own ≡ encoding_of built.paths built.entries → length own ≤ 4294967295 → DecodesAs own newer →
     DecodesAs old_index parts → DecodesAs old_index old → are_ascending parts.names ≡ true →
-    IsMerged parts newer 4294967295 bytes → IsMergedIndex built old bytes
+    IsMerged parts newer 4294967295 bytes → IsMergedIndex built newer old bytes
 merged_index built is own old_index bytes parts newer old written few read_own read_parts read_old ascend merged =
     let size = ap length written in
     let content = built_decodes built is (omega (arith, size, few)) in
@@ -115,5 +139,6 @@ merged_index built is own old_index bytes parts newer old written few read_own r
           (subst (λ b. DecodesAsContent b all all_files) (sym encoded) decodes);
       covered = subst (AllByRecursion (λ name. is_covered (path_set built) name ≡ true)) (sym keys)
           (subst (λ p. AllByRecursion (λ name. is_covered p name ≡ true) newer.names) paths (covered_names newer merged.mergeable.tested.covered));
+      names = sym keys;
       short = omega (arith, most);
     }

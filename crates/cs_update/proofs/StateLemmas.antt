@@ -7,7 +7,7 @@ use Rattle.std.specs.Cmp.Lexicographic.{nat_list_cmp_total}
 use Rattle.std.proofs.lemmas.List.{length-map}
 use Rattle.cs_tree.specs.Cover.{is_covered}
 use Rattle.cs_tree.specs.PathSet.{Paths}
-use Rattle.cs_tree.specs.declared.look.Stamp.{Stamp}
+use Rattle.cs_tree.specs.declared.tree.Stamp.{Stamp}
 use Rattle.cs_tree.proofs.PathSetLemmas.{alike}
 use Rattle.cs_index.specs.Encoding.{Files}
 use Rattle.cs_index.specs.OpenedParts.{files_in}

@@ -1,7 +1,7 @@
 -- A state that is written, after its index.
 use Rattle.std.specs.Prelude.{◌≡◌, ◌+◌, ◌*◌, ◌++◌, ℕ, List, length, min, flat_map}
 use Rattle.std.specs.List.{AllByRecursion}
-use Rattle.cs_tree.specs.declared.look.Stamp.{Stamp}
+use Rattle.cs_tree.specs.declared.tree.Stamp.{Stamp}
 use Rattle.cs_state.specs.Known.{Known}
 use Rattle.cs_state.specs.ProjectStates.{HasNumbers, IsOther}
 use Rattle.cs_state.specs.StateFile.{other_bytes}

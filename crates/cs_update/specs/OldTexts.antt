@@ -2,7 +2,7 @@
 use Rattle.std.specs.Prelude.{◌≡◌, ◌⊎◌, ◌+◌, ◌*◌, ℕ, List, length, slice_get, Option, Some}
 use Rattle.cs_tree.specs.PathSet.{Paths}
 use Rattle.cs_tree.specs.Store.{part_of}
-use Rattle.cs_tree.specs.declared.look.Stamp.{Stamp}
+use Rattle.cs_tree.specs.declared.tree.Stamp.{Stamp}
 use Rattle.cs_index.specs.Stored.{StoredParts}
 use Rattle.cs_state.specs.Known.{IsListed, Known, ProjectState}
 use Rattle.cs_state.specs.OpenedStates.{HasIndex}

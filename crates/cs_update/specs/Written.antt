@@ -4,7 +4,7 @@ use Rattle.std.specs.List.{AllByRecursion, zip}
 use Rattle.cs_tree.specs.Cover.{is_covered}
 use Rattle.cs_tree.specs.NamesAscending.{are_ascending}
 use Rattle.cs_tree.specs.PathSet.{Paths}
-use Rattle.cs_tree.specs.declared.look.Stamp.{Stamp}
+use Rattle.cs_tree.specs.declared.tree.Stamp.{Stamp}
 use Rattle.cs_index.specs.Built.{IsBuilt, file_map, path_set}
 use Rattle.cs_index.specs.OpenedParts.{files_in}
 use Rattle.cs_known.specs.IndexedFiles.{text_known}

@@ -1,4 +1,4 @@
-//! What a run learns of the files of a project, and the first state that it leaves.
+//! What a run learns of the files of a project, and the state that it leaves.
 //!
 //! Read `specs/Contents.antt` first: what a file is by its bytes, then `specs/Learning.antt`: what
 //! a run learns of the files that it has seen, `specs/Updates.antt`: what an update does, and
@@ -10,10 +10,10 @@
 //! read to its end is not learned, since a search has to report it each time, and neither is one
 //! whose stamp is not old at the moment of the run: a later write might give the same stamp.
 //!
-//! `first_state` writes the state that knows what was learned. The steps of an update of an old
-//! state are here, and no call joins them yet: its index is to be merged with that of the texts
-//! that were learned, whose paths are the names that were seen (`own_paths`), and the stamps and
-//! the others follow by the same merge of two ascending lists (`write_stamps`, `write_others`).
+//! `first_state` writes the state that knows what was learned. `update_state` merges it with an old
+//! state: the old index with that of the texts that were learned, whose paths are the names that
+//! were seen (`own_paths`), and the stamps and the others by the same merge of two ascending lists
+//! (`write_stamps`, `write_others`).
 #![tactic(auto)]
 
 mod age;
@@ -43,4 +43,4 @@ pub use due::is_due;
 pub use fault::UpdateFault;
 pub use learned::Learned;
 pub use learning::learn_files;
-pub use updating::first_state;
+pub use updating::{first_state, update_state};

@@ -3,7 +3,7 @@ ghost use Rattle.std.specs.Prelude.{◌≡◌, ◌++◌, [], true, ℕ, List, So
 ghost use Rattle.std.specs.List.{AllByRecursion};
 ghost use Rattle.cs_tree.specs.NamesAscending.{are_ascending};
 ghost use Rattle.cs_tree.specs.PathSet as set;
-ghost use Rattle.cs_tree.specs.declared.look.Stamp.{Stamp};
+ghost use Rattle.cs_tree.specs.declared.tree.Stamp.{Stamp};
 ghost use Rattle.cs_known.specs.OtherFiles.{HasLeft};
 ghost use Rattle.cs_state.specs.Known.{Known};
 ghost use Rattle.cs_state.specs.OtherReaders.{known_of};

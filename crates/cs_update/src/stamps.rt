@@ -3,7 +3,7 @@ ghost use Rattle.std.specs.Prelude.{◌≡◌, ◌+◌, ◌-◌, ◌<◌, ◌++�
 ghost use Rattle.std.specs.List.{AllByRecursion, zip};
 ghost use Rattle.cs_tree.specs.NamesAscending.{are_ascending};
 ghost use Rattle.cs_tree.specs.PathSet as set;
-ghost use Rattle.cs_tree.specs.declared.look.Stamp.{Stamp};
+ghost use Rattle.cs_tree.specs.declared.tree.Stamp.{Stamp};
 ghost use Rattle.cs_update.specs.MergedLists.{after, before, merged, own_left, stamps_in, uncovered};
 ghost use Rattle.cs_update.specs.NewStates.{HasBegun};
 ghost use Rattle.cs_update.specs.OldTexts.{HasStamps};

@@ -1,12 +1,21 @@
-// A first state.
-ghost use Rattle.std.specs.Prelude.{◌≡◌, ◌<◌, ◌^◌, ◌∷◌, [], true, ℕ, List, Some, IfOk, length, map, string_bytes};
+// A first state, and the update of one.
+ghost use Rattle.std.specs.Prelude.{◌≡◌, ◌∷◌, [], true, ℕ, List, Some, IfOk, length, map, string_bytes};
 ghost use Rattle.std.specs.List.{AllByRecursion};
+ghost use Rattle.cs_tree.specs.NamesAscending.{are_ascending};
 ghost use Rattle.cs_tree.specs.Snapshot.{Snapshot};
+ghost use Rattle.cs_index.specs.Encoding.{names_of};
+ghost use Rattle.cs_index.specs.OpenedParts.{Parts};
+ghost use Rattle.cs_index.specs.Tables.{TablesIn};
 ghost use Rattle.cs_known.specs.Learned.{Run};
+ghost use Rattle.cs_merge.specs.MergeResult.{IsMerged, most_bytes};
+ghost use Rattle.cs_state.specs.Known.{ProjectState};
 ghost use Rattle.cs_state.specs.OtherReaders.{known_of};
 ghost use Rattle.cs_state.specs.ProjectStates.{IsOther};
-ghost use Rattle.cs_update.specs.Updating.{IsFirstState, SawFiles, seen_by};
-ghost use Rattle.cs_update.specs.Written.{IsWritten};
+ghost use Rattle.cs_state.specs.StateLengths.{AreWithin};
+ghost use Rattle.cs_update.specs.NewStates.{HasBegun};
+ghost use Rattle.cs_update.specs.OldTexts.{IsOpenState};
+ghost use Rattle.cs_update.specs.Updating.{IsFirstState, IsUpdatedState, SawFiles, seen_by};
+ghost use Rattle.cs_update.specs.Written.{IsMergedState, IsWritten};
 
 use crate::call::UpdateCall;
 use crate::counted_output::CountedOutput;
@@ -14,10 +23,16 @@ use crate::fault::UpdateFault;
 use crate::learned::Learned;
 use crate::learning::learn_files;
 use crate::new_state::NewState;
-use cs_index::BuildFault;
+use crate::old_texts::OldTexts;
+use crate::others::write_others;
+use crate::own_paths::own_paths;
+use crate::own_texts::OwnTexts;
+use crate::stamps::write_stamps;
+use cs_index::{BuildFault, Index, OldIndex, Tables};
+use cs_merge::{MergeFault, merge_stored};
 use cs_output::Output;
-use cs_state::SummedOutput;
-use cs_tree::Tree;
+use cs_state::{FirstBytes, OtherReader, StampReader, StateFile, SummedBytes, SummedOutput};
+use cs_tree::{Store, Tree};
 use std::alloc::{AllocError, Global};
 
 /// Gives an output the first state of a project: what the run learns of its files.
@@ -73,4 +88,134 @@ fn write_learned<O: Output + Drop>(
     let counted = new.finish()?;
     let out = counted.finish()?;
     Ok(out)
+}
+
+/// Gives an output the old state, updated by what the run learns: what is known at the names that
+/// it saw is replaced. `file` is the file of the old state again.
+///
+/// # Errors
+///
+/// `BadState` if the old state is damaged, or its names do not ascend; `TooLarge` if the new one
+/// would have 2^32 bytes; and those of `learn_files`.
+pub fn update_state<S: Store + Drop, T: Tree, O: Output + Drop>(
+    call: &UpdateCall<'_>,
+    state: StateFile<S>,
+    file: S,
+    tree: &mut T,
+    out: O,
+) -> Result<O, UpdateFault>
+    requires given { O.given out ≡ [] }
+    requires within { AreWithin state.lengths }
+    ensures updated { (items : Snapshot) (run : Run) (old : ProjectState) → T.snapshot tree.old ≡ Some items →
+        SawFiles items call.now run → IsOpenState (S.model file)
+        (⟦<FirstBytes<SummedBytes<S>> as Store>⟧.model state.bytes) state.lengths state.index old →
+        IfOk result (λ out. IsUpdatedState run (seen_by call.now) old (O.given out)) }
+    ensures keeps { T.snapshot tree.new ≡ T.snapshot tree.old }
+{
+    let paths = own_paths(call.alloc, call.files)?;
+    let learned = learn_files(call, tree, &paths)?;
+    let out = merge_learned(call.alloc, state, file, &paths, learned, out)?;
+    Ok(out)
+}
+
+/// Gives an output the old state with what was learned under these paths.
+fn merge_learned<S: Store + Drop, O: Output + Drop>(
+    alloc: Global,
+    state: StateFile<S>,
+    file: S,
+    paths: &[String],
+    learned: Learned,
+    out: O,
+) -> Result<O, UpdateFault>
+    requires given { O.given out ≡ [] }
+    requires within { AreWithin state.lengths }
+    requires paths { are_ascending (map string_bytes paths.now) ≡ true }
+    ensures { (old : ProjectState) → learned.texts.paths ≡ map string_bytes paths.now →
+        AllByRecursion IsOther (map known_of learned.others.items) →
+        length (names_of learned.texts.entries) ≡ length learned.stamps.items → IsOpenState (S.model file)
+        (⟦<FirstBytes<SummedBytes<S>> as Store>⟧.model state.bytes) state.lengths state.index old →
+        IfOk result (λ out. IsMergedState learned old (O.given out)) }
+{
+    let StateFile {
+        lengths,
+        mut bytes,
+        ..
+    } = state;
+    let Learned {
+        texts,
+        stamps,
+        others,
+    } = learned;
+    let own = match texts.finish_within(u32::MAX) {
+        Ok(own) => own,
+        Err(BuildFault::TooLarge) => return Err(UpdateFault::TooLarge),
+        Err(_) => return Err(UpdateFault::Memory),
+    };
+    let Ok(newer) = Index::open(&own) else {
+        return Err(UpdateFault::Memory);
+    };
+    let base = open_base(alloc, &mut bytes)?;
+    let tables = base.tables();
+    let mut new = merge_indexes(alloc, &mut bytes, &tables, &newer, out)?;
+    let start = lengths.index as u32;
+    let middle = (lengths.index + lengths.stamps) as u32;
+    let mut body = SummedBytes::new(alloc, file, lengths.body);
+    let mut old_texts = OldTexts {
+        names: tables.name_table(),
+        stamps: StampReader::new(alloc, start, middle),
+    };
+    let mut own_texts = OwnTexts::new(newer.name_table(), &stamps);
+    write_stamps(
+        alloc,
+        &mut body,
+        &mut old_texts,
+        paths,
+        &mut own_texts,
+        &mut new,
+    )?;
+    let mut old_others = OtherReader::new(alloc, middle, lengths.body as u32);
+    write_others(alloc, &mut body, &mut old_others, paths, &others, &mut new)?;
+    let counted = new.finish()?;
+    let out = counted.finish()?;
+    Ok(out)
+}
+
+/// Opens the index of an old state, whose names have to ascend.
+fn open_base<S: Store>(alloc: Global, store: &mut S) -> Result<OldIndex, UpdateFault>
+    ensures base { (index : List ℕ) → S.model store.old ≡ Some index → IfOk result (λ base.
+        (parts : Parts) × TablesIn index base parts × (are_ascending parts.names ≡ true)) }
+    ensures store { S.model store.new ≡ S.model store.old }
+{
+    let Ok(base) = OldIndex::open(alloc, store)? else {
+        return Err(UpdateFault::BadState);
+    };
+    if !base.tables().name_table().in_order() {
+        return Err(UpdateFault::BadState);
+    }
+    Ok(base)
+}
+
+/// Gives an output the index of an old state, merged with that of the texts that were learned.
+fn merge_indexes<S: Store, O: Output + Drop>(
+    alloc: Global,
+    store: &mut S,
+    old: &Tables<'_>,
+    newer: &Index<'_>,
+    out: O,
+) -> Result<NewState<CountedOutput<O>>, UpdateFault>
+    requires { O.given out ≡ [] }
+    ensures { (bytes : List ℕ) (parts : Parts) → S.model store.old ≡ Some bytes →
+        TablesIn bytes old.now parts → IfOk result (λ new. (index : List ℕ)
+        × IsMerged parts newer.now most_bytes index
+        × HasBegun ⟦<CountedOutput<O> as Output>⟧.given new index [] []) }
+{
+    let mut out = SummedOutput::new(alloc, CountedOutput::new(out));
+    match merge_stored(alloc, store, u32::MAX, old, newer, &mut out)? {
+        Ok(_sent) => {}
+        Err(MergeFault::Memory) => return Err(UpdateFault::Memory),
+        Err(MergeFault::TooLarge) => return Err(UpdateFault::TooLarge),
+        Err(_) => return Err(UpdateFault::BadState),
+    }
+    let new = NewState::new(out)?;
+    Ok(new)
 }

@@ -1,6 +1,6 @@
 // Writing a state after its index.
 ghost use Rattle.std.specs.Prelude.{◌≡◌, ◌<◌, ◌^◌, ◌++◌, ◌∷◌, [], ℕ, List, IfOk, OnOk, length, map};
-ghost use Rattle.cs_tree.specs.declared.look.Stamp.{Stamp};
+ghost use Rattle.cs_tree.specs.declared.tree.Stamp.{Stamp};
 ghost use Rattle.cs_state.specs.Known.{Known};
 ghost use Rattle.cs_state.specs.OtherReaders.{known_of};
 ghost use Rattle.cs_state.specs.ProjectStates.{HasNumbers, IsOther};

@@ -1,7 +1,7 @@
 use Rattle.std.proofs.Common.{◌≡◌, [], ℕ, List, Some, map, string_bytes}
 use Rattle.std.specs.List.{AllByRecursion}
 use Rattle.cs_tree.specs.PathSet as set
-use Rattle.cs_tree.specs.declared.look.Stamp.{Stamp}
+use Rattle.cs_tree.specs.declared.tree.Stamp.{Stamp}
 use Rattle.cs_known.specs.OtherFiles.{HasLeft}
 use Rattle.cs_state.specs.Known.{IsListed, Known}
 use Rattle.cs_state.specs.OtherReaders.{known_of}

@@ -1,7 +1,7 @@
 use Rattle.std.proofs.Common.{◌≡◌, ◌++◌, [], ℕ, List, Some, drop, map, string_bytes}
 use Rattle.std.specs.List.{zip}
 use Rattle.cs_tree.specs.PathSet as set
-use Rattle.cs_tree.specs.declared.look.Stamp.{Stamp}
+use Rattle.cs_tree.specs.declared.tree.Stamp.{Stamp}
 use Rattle.cs_update.specs.MergedLists.{merged, own_left, stamps_in, uncovered}
 use Rattle.cs_update.specs.NewStates.{HasBegun}
 use Rattle.cs_update.specs.OldTexts.{HasStamps}

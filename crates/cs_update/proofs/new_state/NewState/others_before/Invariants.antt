@@ -1,6 +1,6 @@
 use Rattle.std.proofs.Common.{ℕ, List, map, length}
 use Rattle.std.specs.List.{AllByRecursion}
-use Rattle.cs_tree.specs.declared.look.Stamp.{Stamp}
+use Rattle.cs_tree.specs.declared.tree.Stamp.{Stamp}
 use Rattle.cs_state.specs.Known.{Known}
 use Rattle.cs_state.specs.OtherReaders.{known_of}
 use Rattle.cs_state.specs.ProjectStates.{IsOther}

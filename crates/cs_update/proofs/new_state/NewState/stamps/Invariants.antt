@@ -1,5 +1,5 @@
 use Rattle.std.proofs.Common.{◌++◌, [], ℕ, List, take}
-use Rattle.cs_tree.specs.declared.look.Stamp.{Stamp}
+use Rattle.cs_tree.specs.declared.tree.Stamp.{Stamp}
 use Rattle.cs_update.specs.NewStates.{HasBegun}
 use Rattle.cs_update.proofs.new_state.NewState.stamps.Given as goal
 

@@ -1,5 +1,5 @@
 use Rattle.std.proofs.Common.{◌≡◌, ◌-◌, ◌++◌, [], ℕ, List, length}
-use Rattle.cs_tree.specs.declared.look.Stamp.{Stamp}
+use Rattle.cs_tree.specs.declared.tree.Stamp.{Stamp}
 use Rattle.cs_update.specs.MergedLists.{after, before, own_left, stamps_in}
 use Rattle.cs_update.specs.NewStates.{HasBegun}
 use Rattle.cs_update.proofs.own_texts.OwnTexts.write_before.Given as goal

@@ -29,8 +29,8 @@ CONTRACTS = [
 # the files of the traits
 TRAITS = {
     "Tree": "cs_tree/src/tree.rt",
-    "Look": "cs_tree/src/look.rt",
-    "Source": "cs_tree/src/source.rt",
+    "Look": "cs_tree/src/tree.rt",
+    "Source": "cs_tree/src/sink.rt",
     "Sink": "cs_tree/src/sink.rt",
     "Store": "cs_tree/src/store.rt",
     "Output": "cs_output/src/output.rt",

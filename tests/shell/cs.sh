@@ -171,6 +171,20 @@ gives 0 'cd sub && cs --update'
 holds "is_state '$state' && [ ! -e '$state~' ]"
 gives 2 'cs --update missing'
 silent 'cs --update; [ ! -e "$cache" ] || echo "$cache"'
+# an update is a merge, whose bytes are those of a state that is made anew; where all is known, nothing is written
+cp "$state" "$fresh/state"
+for name in f5*; do seq 3000 >> "$name"; done
+sleep 3.2
+gives 1 'cs nowhere'
+holds "is_state '$state' && ! cmp -s '$state' '$fresh/state' && cp '$state' '$fresh/state' && rm '$state'"
+gives 1 'cs nowhere'
+holds "cmp '$state' '$fresh/state' && cp -p '$state' '$fresh/state'"
+gives 0 'cs --update'
+holds "[ ! '$state' -nt '$fresh/state' ]"
+echo 'a last marker' >> f599
+sleep 3.2
+gives 0 'cs --update'
+holds "[ '$state' -nt '$fresh/state' ] && [ \"\$(cs -c marker)\" = f599:2 ]"
 cd "$HOME/few" && gives 0 'cs "line 7$"' && holds '[ ! -e .git/codesearch ]'
 # what a file .git names is not written to, nor is a plain folder
 cd "$HOME/file" && gives 1 'cs nowhere' && holds '[ -z "$(ls -A ../named)" ]'

@@ -69,7 +69,6 @@ my @exceptions = map { /^\s*(\S+): (.+?): (.+?)\s*$/ ? [qr{^$1$}, qr/^(?:$2)$/, 
     crates/cs_(trigram/proofs/position|index/proofs/reading/bytes)/.*: front: a clause of std's split_at
     crates/cs_match/proofs/lanes/four_lanes/.*: front: a clause of std's split_at_mut
     crates/codesearch/src/progress\.rt: cell: std's type
-    crates/cs_index/proofs/reading/index/Index/candidates_from/.*: told: the prover's name of a bound
 EXCEPTIONS
 @exceptions <= 20 or die "words.sh: more than twenty exceptions\n";
 

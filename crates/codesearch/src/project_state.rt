@@ -1,17 +1,27 @@
 // The state of a project on the disk.
+ghost use Rattle.std.specs.Prelude.{◌≡◌, ◌≤◌, [], length};
 
 use crate::progress::{CountedTree, ProgressLine};
 use crate::state_folder::{StateFolder, project_root};
 use cs_learned::{ClosedState, StateKnowledge};
+use cs_output::Output;
+use cs_state::StateFile;
 use cs_storage::{
     DiskFolder, DiskIndex, IndexFolder, IndexUpdate, NewFile, StorageFault, begin_update,
     finish_update, replace_file,
 };
-use cs_tree::{DiskTree, StdSink, Store, write_all};
-use cs_update::{SeenFile, UpdateCall, first_state, is_due};
+use cs_tree::{DiskTree, StdSink, Store, Tree, write_all};
+use cs_update::{SeenFile, UpdateCall, UpdateFault, first_state, is_due, update_state};
 use std::alloc::AllocError;
 use std::io::IsTerminal;
 use std::time::SystemTime;
+
+/// The bytes of the files that are learned at once, unless there are too many batches. Their
+/// postings take a fifth of that in memory.
+const BATCH: u64 = 300_000_000;
+
+/// The most batches: each is merged with the state.
+const MOST_BATCHES: usize = 16;
 
 /// A folder for the state of a project, and the state file that was opened there.
 #[derive(Drop)]
@@ -33,7 +43,7 @@ impl FoundState {
         })
     }
 
-    /// The file that was opened.
+    /// The file that was opened, once more and again.
     fn closed(&self) -> Option<ClosedState<DiskIndex>> {
         let _opened = self.file.as_ref()?;
         Some(ClosedState {
@@ -48,38 +58,116 @@ impl FoundState {
         finish_update(&mut self.storage, &IndexUpdate::Remove)
     }
 
-    /// Makes a first state of what is learned of the files below a root.
-    fn store(
+    /// Stores what is learned of files, a batch at a time, so that little memory is taken: over the
+    /// old state, or as a first one.
+    fn learn(
         &mut self,
         rt: &HostRuntime,
         root: &str,
         files: &[SeenFile],
+        is_open: bool,
     ) -> Result<(), StorageFault> {
+        self.home.make(rt);
         let progress = ProgressLine::new(rt, "cs", true)?;
         let mut tree = CountedTree {
             inner: DiskTree::of_files(rt.clone()?),
             progress: &progress,
         };
-        self.home.make(rt);
-        begin_update(&mut self.storage)?;
-        let Some(moment) = self.storage.moment() else {
-            self.storage.release();
-            return Err(StorageFault::Failed);
-        };
-        let call = UpdateCall {
-            alloc: rt.alloc(),
-            root,
-            files,
-            moment,
-        };
-        let given = first_state(&call, &mut tree, NewFile::new(&mut self.storage)).is_ok();
-        progress.erase();
-        if !given {
-            self.storage.release();
-            return Err(StorageFault::Failed);
+        let most = batch_size(files);
+        let mut rest = files;
+        let mut learned = Ok(());
+        for at in 0..MOST_BATCHES {
+            let (batch, later) = rest.split_at(batch_len(rest, most));
+            let old = if is_open || at > 0 {
+                self.closed()
+            } else {
+                None
+            };
+            learned = self.store(rt, root, batch, old, &mut tree);
+            rest = later;
+            if learned.is_err() || rest.is_empty() {
+                break;
+            }
+            self.file = self.storage.look()?;
         }
-        replace_file(&mut self.storage)
+        progress.erase();
+        learned
     }
+
+    /// Stores what is learned of a batch of files. A damaged state is taken away.
+    fn store<T: Tree>(
+        &mut self,
+        rt: &HostRuntime,
+        root: &str,
+        files: &[SeenFile],
+        old: Option<ClosedState<DiskIndex>>,
+        tree: &mut T,
+    ) -> Result<(), StorageFault> {
+        begin_update(&mut self.storage)?;
+        let written = match self.storage.moment() {
+            Some(moment) => {
+                let call = UpdateCall {
+                    alloc: rt.alloc(),
+                    root,
+                    files,
+                    moment,
+                };
+                write_state(&call, old, tree, NewFile::new(&mut self.storage))
+            }
+            None => Err(UpdateFault::Memory),
+        };
+        match written {
+            Ok(()) => replace_file(&mut self.storage),
+            Err(UpdateFault::BadState) => finish_update(&mut self.storage, &IndexUpdate::Remove),
+            Err(_) => {
+                self.storage.release();
+                Err(StorageFault::Failed)
+            }
+        }
+    }
+}
+
+/// Gives an output the old state, updated by what is learned of files, or a first one.
+fn write_state<T: Tree, O: Output + Drop>(
+    call: &UpdateCall<'_>,
+    old: Option<ClosedState<DiskIndex>>,
+    tree: &mut T,
+    out: O,
+) -> Result<(), UpdateFault>
+    requires { O.given out ≡ [] }
+{
+    let Some(old) = old else {
+        let _out = first_state(call, tree, out)?;
+        return Ok(());
+    };
+    let Some(state) = StateFile::open(call.alloc, old.file)? else {
+        return Err(UpdateFault::BadState);
+    };
+    let _out = update_state(call, state, old.again, tree, out)?;
+    Ok(())
+}
+
+/// The number of bytes of a batch of files.
+fn batch_size(files: &[SeenFile]) -> u64 {
+    let mut len: u64 = 0;
+    for file in files {
+        len = len.saturating_add(file.stamp.size);
+    }
+    BATCH.max(len / (MOST_BATCHES as u64 - 1))
+}
+
+/// The number of files of the first batch: at least one, and all up to so many bytes.
+fn batch_len(files: &[SeenFile], most: u64) -> usize
+    ensures { result ≤ length files.now }
+{
+    let mut len: u64 = 0;
+    for (at, file) in files.iter().enumerate() {
+        if len > most {
+            return at;
+        }
+        len = len.saturating_add(file.stamp.size);
+    }
+    files.len()
 }
 
 /// The state of a project on the disk.
@@ -136,22 +224,31 @@ impl DiskState {
         }
     }
 
-    /// Makes a state of the files that were not known, if that is due and there is none. A state
-    /// that knows too few of the files is taken away, so that a later search makes it anew. A
-    /// failure only makes later searches slower; on a terminal a line says it.
+    /// Whether the files that were not known are to be learned.
+    fn is_due(&self, rt: &HostRuntime, known: &StateKnowledge<DiskIndex>) -> bool {
+        let files = known.unknown();
+        if known.is_update() {
+            // A state that knows all stays.
+            return !known.is_open() || !files.is_empty();
+        }
+        is_due(files, self.len(), now(rt))
+    }
+
+    /// Learns the files that were not known, if that is due. A state most of whose texts are no
+    /// longer in the project is taken away, so that a later search makes it anew. A failure only
+    /// makes later searches slower; on a terminal a line says it.
     pub(crate) fn learn(&mut self, rt: &HostRuntime, known: &StateKnowledge<DiskIndex>) {
         let files = known.unknown();
-        let is_outdated = self.is_at_root && known.is_outdated();
-        if !known.is_update() && !is_outdated && !is_due(files, self.len(), now(rt)) {
+        let is_outdated = self.is_at_root && known.is_outdated() && !known.is_update();
+        if !is_outdated && !self.is_due(rt, known) {
             return;
         }
-        let removes = known.is_open() && !known.is_update();
         let mut stored = Ok(());
         for state in &mut self.found {
-            stored = if removes {
+            stored = if is_outdated {
                 state.remove()
             } else {
-                state.store(rt, self.root.as_str(), files)
+                state.learn(rt, self.root.as_str(), files, known.is_open())
             };
             if stored.is_ok() {
                 return;

@@ -1,7 +1,7 @@
 -- Which files a search over a state reads.
 use Rattle.std.proofs.Common.{◌≡◌, ℕ, Bool, true, false, List, [], ◌∷◌, Some, None, refl, codes}
 use Rattle.cs_tree.specs.Snapshot.{file}
-use Rattle.cs_tree.specs.declared.look.Stamp.{Stamp}
+use Rattle.cs_tree.specs.declared.tree.Stamp.{Stamp}
 use Rattle.cs_trigram.specs.declared.queries.Query.TheVariants.{Nothing}
 use Rattle.cs_project.specs.declared.form.Mode.TheVariants.{Lines}
 use Rattle.cs_project.specs.declared.form.ShowOptions.{ShowOptions}

@@ -1,7 +1,7 @@
 -- What a state knows, however far its file is read.
 use Rattle.std.proofs.Common.{◌≡◌, ◌∙◌, ℕ, Bool, false, true, List, Option, None, Some, ap, refl, subst, sym}
 use Rattle.std.specs.Prelude.{IfOk, IfSome, Result, Ok, Err, string_bytes}
-use Rattle.cs_tree.specs.declared.look.Stamp.{Stamp}
+use Rattle.cs_tree.specs.declared.tree.Stamp.{Stamp}
 use Rattle.cs_trigram.specs.Query.{LosesNoLine}
 use Rattle.cs_trigram.specs.declared.queries.Query.{Query}
 use Rattle.cs_fresh.specs.Knowledge.{HoldsAsBefore, SearchedTree, SkipsNothingShown}

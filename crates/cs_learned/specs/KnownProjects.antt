@@ -1,6 +1,6 @@
 -- The search of a tree that the files of a state are known for.
 use Rattle.std.specs.Prelude.{◌≡◌, ℕ, List, Option, Some, None, IfSome, false}
-use Rattle.cs_tree.specs.declared.look.Stamp.{Stamp}
+use Rattle.cs_tree.specs.declared.tree.Stamp.{Stamp}
 use Rattle.cs_project.specs.declared.binary.BinaryFiles.{BinaryFiles}
 use Rattle.cs_project.specs.declared.form.ShowOptions.{ShowOptions}
 use Rattle.cs_project.specs.declared.search.LineSearch.{LineSearch}

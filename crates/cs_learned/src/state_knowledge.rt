@@ -178,13 +178,17 @@ impl<S: Store + Drop> Knowledge for StateKnowledge<S> {
         Ok(())
     }
 
-    /// The state is made anew, so nothing is known.
+    /// Each file that the state knows is skipped, so no posting list is read.
     fn begin_update(&mut self, whole: bool) -> Result<(), AllocError> {
         self.learns = true;
         self.is_update = true;
         self.is_whole = whole;
-        self.closed = None;
-        Ok(())
+        let options = SkipOptions {
+            prints_unmatched: false,
+            leaves_out_binary: true,
+        };
+        self.prepare(options, Query::Nothing);
+        self.open()
     }
 
     fn skips(&mut self, path: &str, stamp: Option<Stamp>) -> Result<bool, AllocError> {

@@ -57,7 +57,7 @@ fn search_stored(
 }
 
 /// The number of reads of a search of `ONE_FILE` for one trigram.
-const READS: usize = 15;
+const READS: usize = 14;
 
 /// Whether a search whose reads fail after this number fails, prints nothing and counts one
 /// failure.
@@ -88,12 +88,12 @@ fn matches_within(alloc: Global, reads: usize, args: &str) -> Result<bool, Fail>
     )
 }
 
-/// With `-brute` no entry is looked up, which takes three reads here, and no list is read.
+/// With `-brute` no entry is looked up, which takes two reads here, and no list is read.
 #[test]
 fn enough_reads(rt: HostRuntime) -> Result<(), Fail> {
     let alloc = rt.alloc();
     assert!(rt;
-        matches_within(alloc, READS, "abc")? && matches_within(alloc, READS - 4, "-brute bcd")?
+        matches_within(alloc, READS, "abc")? && matches_within(alloc, READS - 3, "-brute bcd")?
     );
     Ok(())
 }

@@ -1,7 +1,6 @@
 -- The model of a sink with a buffer: moving the bytes of the buffer to the inner sink, and adding to them.
-use Rattle.std.proofs.Common.{◌≡◌, ℕ, ◌+◌, ◌-◌, ◌≤◌, List, [], ◌++◌, sym, ap, ◌∙◌, take, drop, length, Option, Some, None, option_map, arith, append_assoc, append-nil}
-use Rattle.std.proofs.Math.Seq.{take-append_seam, take-append-add}
-use Rattle.std.proofs.lemmas.List.{take-append-drop, drop-take, drop-drop, length-take-le, drop-append-le, take-take}
+use Rattle.std.proofs.Common.{◌≡◌, ℕ, ◌+◌, List, [], ◌++◌, sym, ap, ◌∙◌, take, drop, Option, Some, None, option_map, append_assoc, append-nil}
+use Rattle.std.proofs.lemmas.List.{take-append-drop, drop-drop}
 use Rattle.cs_tree.specs.Sinks.{SinkModel, with_bytes, Grows}
 
 -- what an inner sink has, and then these bytes
@@ -24,28 +23,8 @@ adds_held (Some a) held later buf is = ap (λ bytes. Some (record a { bytes = by
     (ap (λ later. a.bytes ++ later) is ∙ sym (append_assoc a.bytes held buf))
 
 -- a piece that is written is the first of the bytes that are held
-pub held_parts : (start end n : ℕ) (bs read : List ℕ) → read ≡ bs → start ≤ end → drop start (take end bs)
-    ≡ take n (take (end - start) (drop start read)) ++ drop (start + n) (take end bs)
-held_parts start end n bs read same within =
-    let held : drop start (take end bs) ≡ take (end - start) (drop start bs) =
-    ap (λ e. drop start (take e bs)) (omega arith) ∙ drop-take start (end - start) bs in
-    sym (take-append-drop n (drop start (take end bs)))
-    ∙ ap (λ piece. take n piece ++ drop n (drop start (take end bs))) (held ∙ ap (λ read. take (end - start) (drop start read)) (sym same))
-    ∙ ap (λ rest. take n (take (end - start) (drop start read)) ++ rest) (drop-drop n start (take end bs))
-
--- the bytes that are held after some were written behind them, into a Vec of this length
-pub held_more : (start end len : ℕ) (bs old buf piece post rest : List ℕ) → bs ≡ old → piece ≡ buf → start ≤ end →
-    end ≤ length old → end + length buf ≤ len →
-    drop start (take (end + length buf) (take len ((take end bs ++ (piece ++ post)) ++ rest)))
-    ≡ drop start (take end old) ++ buf
-held_more start end len bs old buf piece post rest same put ordered within fits =
-    let full : length (take end old) ≡ end = length-take-le end old within in
-    ap (drop start)
-    (take-take (end + length buf) len _ fits
-    ∙ (λ i. take (end + length buf) ((take end (same i) ++ (put i ++ post)) ++ rest))
-    ∙ ap (λ n. take (n + length buf) ((take end old ++ (buf ++ post)) ++ rest)) (sym full)
-    ∙ ap (take (length (take end old) + length buf)) (append_assoc (take end old) (buf ++ post) rest
-    ∙ ap (λ more. take end old ++ more) (append_assoc buf post rest))
-    ∙ take-append-add (take end old) (buf ++ (post ++ rest)) (length buf)
-    ∙ ap (λ more. take end old ++ more) (take-append_seam buf (post ++ rest)))
-    ∙ drop-append-le start (take end old) buf (omega (arith, full))
+pub held_parts : (start n : ℕ) (bs written : List ℕ) → written ≡ drop start bs → drop start bs ≡ take n written ++ drop (start + n) bs
+held_parts start n bs written is =
+    sym (take-append-drop n (drop start bs))
+    ∙ ap (λ written. take n written ++ drop n (drop start bs)) (sym is)
+    ∙ ap (λ rest. take n written ++ rest) (drop-drop n start bs)

@@ -251,7 +251,8 @@ fn push_children(
 fn child_path(alloc: Global, folder: &str, name: &str) -> Result<String, AllocError>
     ensures { IfOk result (λ path. string_bytes path ≡ child folder.now name.now) }
 {
-    let mut path = String::new(alloc);
+    // A walk keeps the path of each file, so none has more memory than it needs.
+    let mut path = String::with_capacity(alloc, folder.len() + 1 + name.len())?;
     if folder != "/" {
         path.push_str(folder)?;
     }

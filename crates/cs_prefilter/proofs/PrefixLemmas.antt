@@ -9,7 +9,7 @@ use Rattle.std.specs.Simd.Lanes.{zip2}
 use Rattle.std.proofs.lemmas.Nat.{or_block, or_of_8}
 use Rattle.cs_prefilter.specs.declared.word.Word.{Word}
 use Rattle.cs_prefilter.specs.declared.comparing.Prefix.{Prefix}
-use Rattle.cs_prefilter.specs.declared.comparing.PrefixByte.{PrefixByte}
+use Rattle.cs_prefilter.specs.declared.probe.ByteTest.{ByteTest}
 use Rattle.cs_prefilter.specs.WordAt.{WordAt}
 use Rattle.cs_prefilter.specs.Prefixes.{eight, MayFollowAny, TestsByte, IsPrefixOf}
 
@@ -65,12 +65,12 @@ small_eight : (f : ℕ → ℕ) → ((i : ℕ) → f i < 256) → AreSmall (list
 small_eight f small = (small 0, (small 1, (small 2, (small 3, (small 4, (small 5, (small 6, (small 7, tt))))))))
 
 -- the tests of two lists of numbers, all of them exact or none
-abbrev pub byte_of : List ℕ → List ℕ → Bool → ℕ → PrefixByte
-byte_of mask bytes is_exact i = record { test = record { mask = get_or mask i 0; byte = get_or bytes i 0 }; is_exact = is_exact }
+abbrev pub byte_of : List ℕ → List ℕ → Bool → ℕ → (ByteTest × Bool)
+byte_of mask bytes is_exact i = (record { mask = get_or mask i 0; byte = get_or bytes i 0 }, is_exact)
 
 -- the same test, exact only if the other is
-tests_as : (word : Word) (i : ℕ) (a b : PrefixByte) → b.test.mask ≡ a.test.mask → b.test.byte ≡ a.test.byte
-    → (b.is_exact ≡ true → a.is_exact ≡ true) → TestsByte word i a → TestsByte word i b
+tests_as : (word : Word) (i : ℕ) (a b : ByteTest × Bool) → b.0.mask ≡ a.0.mask → b.0.byte ≡ a.0.byte
+    → (b.1 ≡ true → a.1 ≡ true) → TestsByte word i a → TestsByte word i b
 tests_as word i a b mask_is byte_is exact_is tests = record {
   small = (subst (λ n. n < 256) (sym mask_is) tests.small.0, subst (λ n. n < 256) (sym byte_is) tests.small.1);
   passes = λ c small has. ap (bit_or c) mask_is ∙ tests.passes c small has ∙ sym byte_is;
@@ -78,29 +78,29 @@ tests_as word i a b mask_is byte_is exact_is tests = record {
 }
 
 -- one more test in the lists
-pub tests_more : (word : Word) (mask bytes : List ℕ) (was is : Bool) (n : ℕ) (byte : PrefixByte) → n < length mask → n < length bytes
+pub tests_more : (word : Word) (mask bytes : List ℕ) (was is : Bool) (n : ℕ) (byte : ByteTest × Bool) → n < length mask → n < length bytes
     → ((i : ℕ) → i < n → TestsByte word i (byte_of mask bytes was i)) → TestsByte word n byte
-    → (is ≡ true → (was ≡ true) × (byte.is_exact ≡ true))
-    → (i : ℕ) → i < n + 1 → TestsByte word i (byte_of (set mask n byte.test.mask) (set bytes n byte.test.byte) is i)
+    → (is ≡ true → (was ≡ true) × (byte.1 ≡ true))
+    → (i : ℕ) → i < n + 1 → TestsByte word i (byte_of (set mask n byte.0.mask) (set bytes n byte.0.byte) is i)
 tests_more word mask bytes was is n byte in_mask in_bytes each last both i lt = elim (cases_lt i n) [
   | inl before ↦
       let other : i ≡ n → ⊥ = λ same. absurd (omega (arith, same, before)) in
-      tests_as word i (byte_of mask bytes was i) _ (get_or-set_other mask n i byte.test.mask 0 other)
-      (get_or-set_other bytes n i byte.test.byte 0 other) (λ e. (both e).0) (each i before)
+      tests_as word i (byte_of mask bytes was i) _ (get_or-set_other mask n i byte.0.mask 0 other)
+      (get_or-set_other bytes n i byte.0.byte 0 other) (λ e. (both e).0) (each i before)
   | inr after ↦
       let here : n ≡ i = omega (arith, lt, after) in
-      subst (λ (j : ℕ). TestsByte word j (byte_of (set mask n byte.test.mask) (set bytes n byte.test.byte) is j)) here
-      (tests_as word n byte _ (get_or-set_same mask n byte.test.mask 0 in_mask) (get_or-set_same bytes n byte.test.byte 0 in_bytes)
+      subst (λ (j : ℕ). TestsByte word j (byte_of (set mask n byte.0.mask) (set bytes n byte.0.byte) is j)) here
+      (tests_as word n byte _ (get_or-set_same mask n byte.0.mask 0 in_mask) (get_or-set_same bytes n byte.0.byte 0 in_bytes)
       (λ e. (both e).1) last)
 ]
 
 -- the prefix that eight tests make
-module _ (word : Word) (byte : ℕ → PrefixByte) (tests : (i : ℕ) → i < 8 → TestsByte word i (byte i)) where
+module _ (word : Word) (byte : ℕ → (ByteTest × Bool)) (tests : (i : ℕ) → i < 8 → TestsByte word i (byte i)) where
   abbrev mask_at : ℕ → ℕ
-  mask_at i = (byte i).test.mask
+  mask_at i = (byte i).0.mask
 
   abbrev byte_at : ℕ → ℕ
-  byte_at i = (byte i).test.byte
+  byte_at i = (byte i).0.byte
 
   small_masks : AreSmall (list_of_eight mask_at)
   small_masks = (
@@ -162,7 +162,7 @@ module _ (word : Word) (byte : ℕ → PrefixByte) (tests : (i : ℕ) → i < 8 
         s i lt = or_of_8 (text_at i) (mask_at i) (bytes (k + i)) (tests i lt).small.0
 
   pub prefix_of : (prefix : Prefix) → prefix.mask ≡ joined (list_of_eight mask_at) → prefix.bytes ≡ joined (list_of_eight byte_at)
-      → (prefix.is_whole ≡ true → (length word.sets.items ≤ 8) × MayFollowAny word × ((i : ℕ) → i < 8 → (byte i).is_exact ≡ true)) → IsPrefixOf word prefix
+      → (prefix.is_whole ≡ true → (length word.sets.items ≤ 8) × MayFollowAny word × ((i : ℕ) → i < 8 → (byte i).1 ≡ true)) → IsPrefixOf word prefix
   prefix_of prefix mask_is bytes_is whole_is = record {
     passes = λ text k bytes occurs.
         let e = passes_where text k bytes occurs in

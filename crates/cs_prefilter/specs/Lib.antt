@@ -17,3 +17,5 @@ pub mod WordBuckets
 pub mod Prefixes
 pub mod WordStop
 pub mod Sufficient
+-- What the contracts cite, passed on.
+pub mod Cited

@@ -5,7 +5,7 @@ use Rattle.std.proofs.Common.{w64}
 use Rattle.cs_syntax.specs.Matching.{member}
 use Rattle.cs_prefilter.specs.declared.word.Word.{Word}
 use Rattle.cs_prefilter.specs.declared.comparing.Prefix.{Prefix}
-use Rattle.cs_prefilter.specs.declared.comparing.PrefixByte.{PrefixByte}
+use Rattle.cs_prefilter.specs.declared.probe.ByteTest.{ByteTest}
 use Rattle.cs_prefilter.specs.WordAt.{WordAt}
 
 -- the eight bytes from offset k on, the first as the lowest
@@ -23,10 +23,10 @@ abbrev pub MayHave : Word → ℕ → ℕ → Type 0
 MayHave word index b = (d : List Bool) → index < length word.sets.items → member (slice_index_or word.sets.items index d) b ≡ true
 
 -- the bytes that the word may have at the index pass the test; if it is exact, no others do
-pub record TestsByte (word : Word) (index : ℕ) (byte : PrefixByte) : Type 0 where
-  pub small : (byte.test.mask < 256) × (byte.test.byte < 256)
-  pub passes : (b : ℕ) → b < 256 → MayHave word index b → bit_or b byte.test.mask ≡ byte.test.byte
-  pub exact : byte.is_exact ≡ true → (b : ℕ) → b < 256 → bit_or b byte.test.mask ≡ byte.test.byte → MayHave word index b
+pub record TestsByte (word : Word) (index : ℕ) (byte : ByteTest × Bool) : Type 0 where
+  pub small : (byte.0.mask < 256) × (byte.0.byte < 256)
+  pub passes : (b : ℕ) → b < 256 → MayHave word index b → bit_or b byte.0.mask ≡ byte.0.byte
+  pub exact : byte.1 ≡ true → (b : ℕ) → b < 256 → bit_or b byte.0.mask ≡ byte.0.byte → MayHave word index b
 
 -- the eight bytes at an offset pass
 abbrev pub Passes : Prefix → List ℕ → ℕ → Type 0

@@ -86,7 +86,7 @@ impl WordList {
     {
         steps.add(1);
         let prefix = &self.prefixes[index];
-        if !prefix.passes(eight_at(text, offset)) {
+        if eight_at(text, offset) | prefix.mask != prefix.bytes {
             return false;
         }
         if prefix.is_whole {
@@ -127,39 +127,24 @@ pub(crate) struct Prefix {
     pub(crate) is_whole: bool,
 }
 
-/// A test of a byte of a word, and whether only bytes that the word may have there pass it.
-#[derive(Clone, Copy, Drop)]
-pub(crate) struct PrefixByte {
-    test: ByteTest,
-    is_exact: bool,
-}
-
 impl Prefix {
     pub(crate) fn of(word: &Word) -> Prefix
         ensures { IsPrefixOf word.now result }
     {
         let mut mask = [255u8; 8];
         let mut bytes = [255u8; 8];
-        let mut is_whole = is_covered(word);
+        let mut is_whole = word.sets.len() <= 8 && word.before.len() == 256;
         for index in 0..8 {
-            let byte = prefix_byte(word, index);
-            mask[index] = byte.test.mask;
-            bytes[index] = byte.test.byte;
-            is_whole = is_whole && byte.is_exact;
+            let (test, is_exact) = byte_test(word, index);
+            mask[index] = test.mask;
+            bytes[index] = test.byte;
+            is_whole = is_whole && is_exact;
         }
         Prefix {
             mask: u64::from_le_bytes(mask),
             bytes: u64::from_le_bytes(bytes),
             is_whole,
         }
-    }
-
-    /// Whether the word may occur where these are the next eight bytes.
-    #[inline(always)]
-    pub(crate) fn passes(&self, eight: u64) -> bool
-        ensures { IsTrue result ↔ (bit_or eight self.now.mask ≡ self.now.bytes) }
-    {
-        eight | self.mask == self.bytes
     }
 }
 
@@ -201,30 +186,22 @@ fn first_in(bucket: usize, len: usize) -> usize
     (bucket * len + 7) / BUCKETS
 }
 
-/// Whether nothing but the next eight bytes decides whether the word occurs.
-fn is_covered(word: &Word) -> bool
-    ensures short { IsTrue result → length word.now.sets.items ≤ 8 }
-    ensures any { IsTrue result → MayFollowAny word.now }
-{
-    word.sets.len() <= 8 && word.before.len() == 256
-}
-
-/// The test of the byte at this index of the word. Behind its end each byte passes.
-fn prefix_byte(word: &Word, index: usize) -> PrefixByte
+/// A test of the byte at this index of the word, and whether only bytes that the word may have
+/// there pass it. Behind the end of the word each byte does.
+fn byte_test(word: &Word, index: usize) -> (ByteTest, bool)
     ensures { TestsByte word.now index result }
 {
     let any = ByteTest {
         mask: 255,
         byte: 255,
     };
-    let (test, is_exact) = match word.sets.get(index) {
+    match word.sets.get(index) {
         Some(set) => match ByteTest::of(set) {
             Some(test) => (test, true),
             None => (any, false),
         },
         None => (any, true),
-    };
-    PrefixByte { test, is_exact }
+    }
 }
 
 /// The eight bytes at the offset.

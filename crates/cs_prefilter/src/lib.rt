@@ -29,11 +29,10 @@
 //!   the vector test uses the low nibbles alone.
 //!
 //! How lines are skipped is chosen by byte frequencies, from a rough table for source text. A word
-//! is expected as often as the rarest three neighbouring bytes of it; letters are not independent,
-//! so three that are part of the most frequent words of source text (`str`, `ing`) are expected at
-//! 0.05 % of the offsets. The estimates may be wrong for a text, so outcomes are counted too:
-//! `Prefilter::skip` gives up, and says so, where its rejected candidates cost more than the bytes
-//! that it skips. These numbers affect only speed.
+//! is expected as often as its rarest three neighbouring bytes, but three that are part of the most
+//! frequent words of source text (`str`, `ing`) at 0.05 % of the offsets. The estimates may be
+//! wrong for a text, so `Prefilter::skip` gives up, and says so, where its rejected candidates cost
+//! more than the bytes that it skips. These numbers affect only speed.
 #![tactic(auto)]
 
 mod comparing;

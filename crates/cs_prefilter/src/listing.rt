@@ -1,11 +1,7 @@
 // Lists of the lines that have a word. The search goes on behind each line, and looks for no start
 // of a line.
 ghost use Rattle.std.specs.Prelude.{◌≡◌, ◌≢◌, ◌≤◌, ◌<◌, ◌+◌, ◌-◌, ◌*◌, false, length, slice_index, IsTrue};
-ghost use Rattle.cs_prefilter.specs.WordBuckets.{AreFound};
-ghost use Rattle.cs_prefilter.specs.WordStop.{IsStop, decided};
-ghost use Rattle.cs_prefilter.specs.Listed.{IsFull, IsListFrom, IsLineStart, NoNewlineFrom, newline};
-ghost use Rattle.cs_prefilter.specs.OffsetWork.{list_work, offset_work};
-ghost use Rattle.cs_prefilter.specs.CountsAtMost.{CountsAtMost};
+ghost use Rattle.cs_prefilter.specs.Cited.{AreFound, IsStop, decided, IsFull, IsListFrom, IsLineStart, NoNewlineFrom, newline, list_work, offset_work, CountsAtMost};
 
 use crate::comparing::WordList;
 use crate::probe::{Probe, REACH, STRIDE};
@@ -52,10 +48,11 @@ impl WordList {
         let cost = self.candidate_cost();
         let mut count = 0;
         let mut wasted = 0usize;
+        let mut is_given_up = false;
         let mut offset = 0;
         // The last bytes are probed in two strides.
         steps.add(2 * STRIDE);
-        'stops: while offset < rest.len() && count < ends.len() {
+        'stops: while !is_given_up && offset < rest.len() && count < ends.len() {
             let stop = self.first_near(probe, rest, offset, steps);
             wasted = wasted.saturating_add(cost.saturating_mul(stop.wasted));
             if stop.has_word {
@@ -68,19 +65,12 @@ impl WordList {
             } else {
                 offset = skip_strides(probe, rest, stop.offset, steps);
             }
-            if wasted > offset.saturating_add(MOST_WASTED) {
-                return Listed {
-                    count,
-                    to: from + offset,
-                    is_given_up: true,
-                    wasted,
-                };
-            }
+            is_given_up = wasted > offset.saturating_add(MOST_WASTED);
         }
         Listed {
             count,
             to: from + offset,
-            is_given_up: false,
+            is_given_up,
             wasted,
         }
     }

@@ -1,19 +1,7 @@
 // The prefilter: a search for candidates by one of the kinds of probes, then verification; and
 // whether the words are the pattern: whether each line that contains one of them has a match.
 ghost use Rattle.std.specs.Prelude.{◌≡◌, ◌≢◌, ◌≤◌, ◌<◌, ◌↔◌, ◌+◌, ◌*◌, ◌-◌, true, false, ℕ, List, length, slice_index, vec_len, Any, IfOk, IfSome, IsTrue, Bool, slice_index_or};
-ghost use Rattle.cs_syntax.specs.Node.{tree_of};
-ghost use Rattle.cs_prefilter.specs.WordAt.{AreSufficient, HasWord, IsPrefilterOf, NoWordFrom, WordAt, with_newline, IsInLine, IsSufficient};
-ghost use Rattle.cs_prefilter.specs.Listed.{IsFull, IsListFrom, IsLineStart};
-ghost use Rattle.cs_prefilter.specs.OffsetWork.{most_words, word_work, list_work, offset_work};
-ghost use Rattle.cs_prefilter.specs.CountsAtMost.{CountsAtMost};
-ghost use Rattle.cs_prefilter.specs.Words.{HasWordOf};
-ghost use Rattle.cs_prefilter.specs.WordSearch.{Finds};
-ghost use Rattle.cs_prefilter.specs.WordBuckets.{AreFound};
-ghost use Rattle.cs_prefilter.specs.WordStop.{IsStop};
-ghost use Rattle.cs_syntax.specs.Members.{IsOnly};
-ghost use Rattle.cs_syntax.specs.Matching.{MatchesSpan, MatchesSequence, MatchesBranch, member};
-ghost use Rattle.cs_syntax.specs.NodeList.{trees_of};
-ghost use Rattle.cs_prefilter.specs.Sufficient.{MatchesPart, HasEdge};
+ghost use Rattle.cs_prefilter.specs.Cited.{tree_of, AreSufficient, HasWord, IsPrefilterOf, NoWordFrom, WordAt, with_newline, IsInLine, IsSufficient, IsFull, IsListFrom, IsLineStart, most_words, word_work, list_work, offset_work, CountsAtMost, HasWordOf, Finds, AreFound, IsStop, IsOnly, MatchesSpan, MatchesSequence, MatchesBranch, member, trees_of, MatchesPart, HasEdge};
 
 use crate::comparing::WordList;
 use crate::listing::Listed;
@@ -331,10 +319,8 @@ fn search_of(kind: Kind, words: &Option<Words>) -> Option<WordSearch> {
 
 /// Whether the words are searched for by two pairs with masks, which takes longer than low nibbles.
 fn are_slow(words: &Option<Words>) -> bool {
-    matches!(
-        search_of(Kind::Pairs, words),
-        Some(WordSearch::TwoFoldedPairs(_))
-    )
+    let search = search_of(Kind::Pairs, words);
+    matches!(search, Some(WordSearch::TwoFoldedPairs(_)))
 }
 
 /// Whether the trigrams of the words are worth their search, if there are rare pairs that are slow,

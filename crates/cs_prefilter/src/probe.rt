@@ -83,7 +83,7 @@ impl ByteTest {
     {
         let bytes = load(text, offset);
         if FOLDED {
-            equal_to(with_bits(bytes, self.mask), self.byte)
+            equal_to(bytes | u8x32::splat(self.mask), self.byte)
         } else {
             equal_to(bytes, self.byte)
         }
@@ -416,12 +416,4 @@ fn equal_to(v: u8x32, byte: u8) -> u8x32
 {
     v.simd_eq(u8x32::splat(byte))
         .select(u8x32::splat(255), u8x32::splat(0))
-}
-
-/// The lanes with the bits of the mask set.
-#[inline(always)]
-fn with_bits(v: u8x32, mask: u8) -> u8x32
-    ensures { HasLanes result (λ k. bit_or (slice_index v k) mask) }
-{
-    v | u8x32::splat(mask)
 }

@@ -151,11 +151,8 @@ fn row_of(test: ByteTest) -> Option<u8> {
 fn share_of_letters(first: ByteTest, second: ByteTest) -> Option<u64> {
     let row = usize::from(row_of(first)?);
     let level = *BIGRAMS.get(27 * row + usize::from(row_of(second)?))?;
-    let capitals = if first.byte < b'_' || second.byte < b'_' {
-        4
-    } else {
-        0
-    };
+    let has_capital = first.byte < b'_' || second.byte < b'_';
+    let capitals = if has_capital { 4 } else { 0 };
     100_000_000u64.checked_shr(u32::from(level.saturating_sub(b'a')) + capitals)
 }
 
@@ -165,11 +162,8 @@ pub(crate) fn rarest_pair(run: &[ByteSet]) -> Option<(usize, usize)> {
     let (first, frequency) = rarest_tested(run, None)?;
     let (second, rest) = rarest_tested(run, Some(first)).unwrap_or((first, NO_SECOND));
     let is_alone = run.iter().filter(|set| set.len() <= MOST_MEMBERS).count() == 1;
-    let share = if is_alone {
-        0
-    } else {
-        frequency.saturating_mul(rest)
-    };
+    let product = frequency.saturating_mul(rest);
+    let share = if is_alone { 0 } else { product };
     if share > MOST_PAIRS {
         return None;
     }

@@ -1,12 +1,7 @@
 // The words of a tree: every matching line contains one of them (`dfamust` in GNU grep, `Analysis`
 // in RE2's prefilter).
 ghost use Rattle.std.specs.Prelude.{ℕ, ◌≤◌, List, IfOk, OnOk, length};
-ghost use Rattle.cs_syntax.specs.Matching.{MatchesSpan, MatchesSequence, MatchesBranch};
-ghost use Rattle.cs_syntax.specs.Node.{tree_of};
-ghost use Rattle.cs_syntax.specs.NodeList.{trees_of};
-ghost use Rattle.cs_prefilter.specs.WordAt.{IsLine};
-ghost use Rattle.cs_prefilter.specs.Words.{HasWordOf};
-ghost use Rattle.cs_prefilter.specs.Runs.{RunEnds, RunsFollow, IsFollowed};
+ghost use Rattle.cs_prefilter.specs.Cited.{MatchesSpan, MatchesSequence, MatchesBranch, tree_of, trees_of, IsLine, HasWordOf, RunEnds, RunsFollow, IsFollowed};
 
 use crate::prefilter::Kind;
 use crate::rarity::MOST_SETS;
@@ -92,17 +87,20 @@ fn best_of_each(
         IsFollowed after.now (λ line. MatchesBranch line (trees_of branches.now)) line i j →
         HasWordOf line words) }
 {
-    let mut all = Words::none(before.alloc);
+    let mut words = Vec::new(before.alloc);
+    let mut share = 0u64;
     for branch in branches {
-        let Some(words) = best(branch, after, before)? else {
+        let Some(more) = best(branch, after, before)? else {
             return Ok(None);
         };
-        if all.words.len() + words.words.len() > before.kind.most_words() {
+        if words.len() + more.words.len() > before.kind.most_words() {
             return Ok(None);
         }
-        all.append(words)?;
+        let mut more_words = more.words;
+        words.append(&mut more_words)?;
+        share = share.saturating_add(more.share);
     }
-    Ok(Some(all))
+    Ok(Some(Words { words, share }))
 }
 
 /// Keeps the word of the current run and of the sets and assertions that `after` begins with.

@@ -1,11 +1,7 @@
 // The scan for words by a probe. Strides of 64 offsets are probed, and words are compared at the
 // offsets that pass.
 ghost use Rattle.std.specs.Prelude.{◌≡◌, ◌≤◌, ◌<◌, ◌+◌, ◌*◌, ◌-◌, length, min, take};
-ghost use Rattle.cs_prefilter.specs.Probe.{NoneFrom};
-ghost use Rattle.cs_prefilter.specs.WordBuckets.{AreFound};
-ghost use Rattle.cs_prefilter.specs.WordStop.{IsStop, StopsBy, NoneUnmarked, decided};
-ghost use Rattle.cs_prefilter.specs.OffsetWork.{offset_work};
-ghost use Rattle.cs_prefilter.specs.CountsAtMost.{CountsAtMost};
+ghost use Rattle.cs_prefilter.specs.Cited.{NoneFrom, AreFound, IsStop, StopsBy, NoneUnmarked, decided, offset_work, CountsAtMost};
 
 use crate::comparing::{WordList, occurs};
 use crate::probe::{Probe, REACH, STRIDE, marks, none_passes};
@@ -56,13 +52,8 @@ impl WordList {
         'strides: while text.len() - offset >= REACH {
             let stop = self.first_in_stride(probe, text, offset, steps);
             wasted = wasted.saturating_add(cost.saturating_mul(stop.wasted));
-            let has_word = stop.has_word;
-            if has_word || wasted > (offset - from).saturating_add(MOST_WASTED) {
-                return WordStop {
-                    offset: stop.offset,
-                    has_word,
-                    wasted,
-                };
+            if stop.has_word || wasted > (offset - from).saturating_add(MOST_WASTED) {
+                return WordStop { wasted, ..stop };
             }
             offset = skip_strides(probe, text, stop.offset, steps);
         }

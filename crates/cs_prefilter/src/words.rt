@@ -30,16 +30,6 @@ pub(crate) fn share_of(words: &Option<Words>) -> u64 {
 impl Words {
     ghost use Rattle.cs_prefilter.specs.Words.{RunEndsAt};
 
-    /// No words.
-    pub(crate) fn none(alloc: Global) -> Words
-        ensures { result.words.items ≡ [] }
-    {
-        Words {
-            words: Vec::new(alloc),
-            share: 0,
-        }
-    }
-
     /// The part of the run that is the best to search for, as the only word, if its share is below
     /// `most`.
     pub(crate) fn of_run(
@@ -59,22 +49,10 @@ impl Words {
         if part.share >= most {
             return Ok(None);
         }
-        let mut words = Words::none(alloc);
-        words.words.push(Word::of_run(alloc, run, part, before)?)?;
-        words.share = part.share;
-        Ok(Some(words))
-    }
-
-    /// Adds the words of another list.
-    pub(crate) fn append(&mut self, other: Words) -> Result<(), AllocError>
-        requires { vec_len self.old.words + vec_len other.words ≤ most_words }
-        ensures { OnOk result
-            (self.new.words.items ≡ self.old.words.items ++ other.words.items) }
-    {
-        let mut more = other.words;
-        self.words.append(&mut more)?;
-        self.share = self.share.saturating_add(other.share);
-        Ok(())
+        let mut words = Vec::new(alloc);
+        words.push(Word::of_run(alloc, run, part, before)?)?;
+        let share = part.share;
+        Ok(Some(Words { words, share }))
     }
 }
 

@@ -145,25 +145,28 @@ gather_all-loop-i-preserved t c = λ last f.
     ))))
 
 pub best_of_each-loop-branch-preserved : goal.best_of_each-loop-branch-preserved
-best_of_each-loop-branch-preserved t c = λ line i j e h.
-    let before = c.loop-branch.all.words.items in
-    let more = c.in-Some.words.words.items in
+best_of_each-loop-branch-preserved t c =
+    let before = c.loop-branch.words.items in
+    let more = c.in-Some.more.words.items in
     let next = trees_from c.args.branches.now c.loop-branch.branch-index c.branch-item.result c.loop-branch-test.true c.branch-item.is in
-    let joined : before ++ more ≡ c.append.new.self.words.items = sym c.in_ok-append.ensures in
-    elim (c.loop-branch.invariant line i j e h) [
-      | inl has ↦ inl (subst (λ (ws : List Word). HasWord ws (with_newline line)) joined (one_before (with_newline line) before more has))
-      | inr left ↦ elim (subst (λ (ts : Trees). MatchesBranch line ts i j) next left) [
-        | inl here_matched ↦ inl (subst (λ (ws : List Word). HasWord ws (with_newline line)) joined
-            (one_after (with_newline line) before more (subst (HasWordOf line) c.in-Some.is
-            (c.in_ok-words.ensures line i j e (here_matched, h.1)))))
-        | inr later ↦ inr later
-      ]
-    ]
+    let joined : before ++ more ≡ c.append.new.self.items = sym c.in_ok-append.ensures.items in
+    record {
+      few = omega (arith, c.in_ok-append.ensures);
+      has = λ line i j e h. elim (c.loop-branch.invariant.has line i j e h) [
+        | inl has ↦ inl (subst (λ (ws : List Word). HasWord ws (with_newline line)) joined (one_before (with_newline line) before more has))
+        | inr left ↦ elim (subst (λ (ts : Trees). MatchesBranch line ts i j) next left) [
+          | inl here_matched ↦ inl (subst (λ (ws : List Word). HasWord ws (with_newline line)) joined
+              (one_after (with_newline line) before more (subst (HasWordOf line) c.in-Some.is
+              (c.in_ok-more.ensures line i j e (here_matched, h.1)))))
+          | inr later ↦ inr later
+        ]
+      ];
+    }
 
 pub best_of_each-returns : goal.best_of_each-returns
 best_of_each-returns t c = λ line i j e h.
     let end = drop_of_length-le c.args.branches.now {i = c.loop-branch.branch-index} (omega arith) in
-    elim (c.loop-branch.invariant line i j e h) [
+    elim (c.loop-branch.invariant.has line i j e h) [
       | inl has ↦ has
       | inr left ↦ absurd (subst (λ (ns : List Node). MatchesBranch line (trees_of ns) i j) end left)
     ]

@@ -10,7 +10,7 @@ strides-preserved g c =
     let stop = c.first_in_stride-stop.result in
     let this = c.first_in_stride-stop.ensures in
     let skipped = c.skip_strides-offset.ensures in
-    let no_word = ap (λ (b : Bool). stop.offset - c.strides.offset + cond b 1 0) c.if-has_word.false in
+    let no_word = ap (λ (b : Bool). stop.offset - c.strides.offset + cond b 1 0) c.if-stop.false in
     record {
       low = omega (arith, before.low, this.stop.low, skipped.low);
       high = skipped.high;
@@ -21,8 +21,8 @@ strides-preserved g c =
       work = omega (arith, before.work, before.low, this.stop.low, this.work.1, no_word, skipped.low, skipped.work);
     }
 
-pub returns-then-has_word-clause-stop : goal.returns-then-has_word-clause-stop
-returns-then-has_word-clause-stop g c =
+pub returns-then-stop-clause-stop : goal.returns-then-stop-clause-stop
+returns-then-stop-clause-stop g c =
     let before = c.strides.invariant in
     let this = c.first_in_stride-stop.ensures.stop in
     record {

@@ -1,36 +1,14 @@
-use Rattle.std.proofs.Common.{◌≡◌, ℕ, ◌+◌, ◌-◌, Bool, cond, List, length, take, drop, get_or, set, ap, sym, ◌∙◌, arith, length-take, length-drop, get_or-set_same}
+use Rattle.std.proofs.Common.{◌≡◌, ℕ, ◌+◌, ◌-◌, Bool, cond, true≢false, List, length, take, drop, get_or, set, ap, sym, ◌∙◌, arith, length-take, length-drop, get_or-set_same}
 use Rattle.std.proofs.lemmas.List.{take_rest, get_or-drop}
 use Rattle.cs_prefilter.specs.declared.steps.Steps.{Steps}
 use Rattle.cs_prefilter.proofs.ScanLemmas.{none_found}
 use Rattle.cs_prefilter.proofs.ListedLemmas.{listed-gap, listed-line, listed-as, listed-rest}
 use Rattle.cs_prefilter.proofs.comparing.WordList.list.Goals as goal
-use Rattle.cs_prefilter.proofs.comparing.WordList.list.Goals.{then-stop, else-stop, then-stops-test+else-count-ends, else-stops-test}
+use Rattle.cs_prefilter.proofs.comparing.WordList.list.Goals.{then-stop, else-stop, then-stops-test+then-offset-rest+else-count-ends, then-stops-test+else-offset-rest, else-stops-test}
 
 -- a byte of the rest of a text
 byte : (text : List ℕ) (from k : ℕ) → get_or (take (length text - from) (drop from text)) k 0 ≡ get_or text (from + k) 0
 byte text from k = ap (λ (rest : List ℕ). get_or rest k 0) (take_rest text from) ∙ get_or-drop from text k 0
-
-pub returns-then-wasted-saturating_add-clause-ends : goal.returns-then-wasted-saturating_add-clause-ends
-returns-then-wasted-saturating_add-clause-ends g c =
-    let words = c.args.self.now.words.items in
-    let from = c.args.from in
-    let rest = take (length c.args.text.now - from) (drop from c.args.text.now) in
-    let stop = c.first_near-stop.result in
-    let this = c.first_near-stop.ensures.stop in
-    let gap = listed-gap words rest from c.stops.offset stop.offset c.stops.count c.stops.ends c.stops.invariant.ends this.low this.high this.none in
-    listed-rest words c.args.text.now from c.if-stop.offset c.if-stop.count c.if-stop.ends (elim c.if-stop.branch [
-      | then-stop w ↦
-          let line = w.line_end-end.ensures in
-          listed-as words rest from _ _ _ _ _ _ w.offset-is w.count-is w.ends-is
-          (listed-line words rest from stop.offset w.line_end-end.result c.stops.count c.stops.ends gap (this.stops w.if-stop.true)
-          line.low line.high line.none line.newline c.if-count-ends.true)
-      | else-stop w ↦
-          let to = w.skip_strides-offset.result in
-          let skipped = w.skip_strides-offset.ensures in
-          listed-as words rest from _ _ _ _ _ _ w.offset-is w.count-is w.ends-is
-          (listed-gap words rest from stop.offset to c.stops.count c.stops.ends gap skipped.low skipped.high
-          (none_found words rest (g.P.Probe.Finds c.args.probe.now) c.requires.finds stop.offset to skipped.none))
-    ])
 
 pub stops-preserved : goal.stops-preserved
 stops-preserved g c =
@@ -60,6 +38,7 @@ stops-preserved g c =
             start = λ full some. ap (λ k. get_or rest k 0) at ∙ line.newline;
             stops = λ full. omega (arith, listed, w.offset-is);
             few = omega (arith, before.few, this.low, line.low, w.count-is, w.offset-is);
+            moved = λ given. omega (arith, w.offset-is);
             rises = omega (arith, before.rises, work.0, w.add-then-stop.ensures, line.work, ap (λ (s : Steps). s.count) w.steps-is);
             work = omega (
               arith,
@@ -86,6 +65,7 @@ stops-preserved g c =
             start = λ full some. absurd (omega (arith, full, ap (λ (l : List ℕ). length l) w.ends-is, w.count-is, c.if-count-ends.true));
             stops = λ full. absurd (omega (arith, full, ap (λ (l : List ℕ). length l) w.ends-is, w.count-is, c.if-count-ends.true));
             few = omega (arith, before.few, this.low, skipped.low, w.count-is, w.offset-is);
+            moved = λ given. omega (arith, c.first_near-stop.ensures.moves w.if-stop.false, skipped.low, w.offset-is);
             rises = omega (arith, before.rises, work.0, skipped.work, ap (λ (s : Steps). s.count) w.steps-is);
             work = omega (
               arith,
@@ -112,15 +92,15 @@ returns-clause-start g c = λ not low.
     let from = c.args.from in
     let off = c.stops.offset in
     elim c.stops-test.branch [
-      | then-stops-test+else-count-ends w ↦
+      | then-stops-test+then-offset-rest+else-count-ends w ↦
           let there : from + (off - 1) ≡ from + off - 1 = omega (arith, low) in
           sym (byte text from (off - 1) ∙ ap (λ k. get_or text k 0) there)
           ∙ c.stops.invariant.start (omega (arith, w.if-count-ends.false)) (omega (arith, low))
-      | else-stops-test w ↦
+      | then-stops-test+else-offset-rest w ↦
           let all : from + off - 1 ≡ length text - 1 = omega (
             arith,
             low,
-            w.stops-test.false,
+            w.if-offset-rest.false,
             c.stops.invariant.ends.high,
             length-take (length text - from) (drop from text),
             length-drop from text,
@@ -133,6 +113,7 @@ returns-clause-start g c = λ not low.
             length-take (length text - from) (drop from text),
             length-drop from text,
           ))
+      | else-stops-test w ↦ absurd (true≢false (sym w.stops-test.false ∙ not))
     ]
 
 pub returns-clause-moves : goal.returns-clause-moves
@@ -140,13 +121,14 @@ returns-clause-moves g c = λ low.
     let text = c.args.text.now in
     let from = c.args.from in
     elim c.stops-test.branch [
-      | then-stops-test+else-count-ends w ↦
+      | then-stops-test+then-offset-rest+else-count-ends w ↦
           omega (arith, w.if-count-ends.false, c.stops.invariant.few, c.stops.auto.ends, c.requires.room)
-      | else-stops-test w ↦ omega (
+      | then-stops-test+else-offset-rest w ↦ omega (
         arith,
         low,
-        w.stops-test.false,
+        w.if-offset-rest.false,
         length-take (length text - from) (drop from text),
         length-drop from text,
       )
+      | else-stops-test w ↦ omega (arith, c.stops.invariant.moved w.stops-test.false)
     ]

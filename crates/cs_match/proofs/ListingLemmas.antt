@@ -15,7 +15,7 @@ use Rattle.cs_match.specs.Skipping.{AreWholeLines, IsLineAfter, NoneMatch}
 use Rattle.cs_match.specs.MatchingEnds.{is_matching_end, matching_ends}
 use Rattle.cs_match.specs.Lanes.{AreListed}
 use Rattle.cs_match.specs.Listing.{ListsLines}
-use Rattle.cs_match.specs.declared.dfa.ListedLines.{ListedLines}
+use Rattle.cs_match.specs.declared.dfa.EndList.{EndList}
 use Rattle.cs_match.proofs.CandidateLemmas.{line_around}
 use Rattle.cs_match.proofs.ChunkLemmas.{AreListed-append}
 use Rattle.cs_match.proofs.CountingLemmas.{count_cons, none_counted}
@@ -178,7 +178,7 @@ module _ (t : Tree) (block : List ℕ) where
       }
 
   -- lines without a match, and a list of those after them
-  pub ListsLines-skipped : (from start : ℕ) (lines : ListedLines) (ends : List ℕ) →
+  pub ListsLines-skipped : (from start : ℕ) (lines : EndList) (ends : List ℕ) →
       AreSkipped (λ has_match. Decides has_match t) block from start → start < length block → ListsLines t block start lines ends →
       ListsLines t block from lines ends
   ListsLines-skipped from start lines ends skipped within l = record {

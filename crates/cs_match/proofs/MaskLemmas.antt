@@ -1,5 +1,6 @@
 -- Masks are filled position by position.
 use Rattle.std.proofs.Common.{◌≡◌, ℕ, ◌+◌, ◌<◌, ◌≤◌, Bool, false, List, [], ◌∷◌, ◌++◌, length, map, get_or, sym, ◌∙◌, ap, subst, inl, inr, arith, ext_get_or}
+use Rattle.std.specs.Prelude.{Option, Some, None}
 use Rattle.std.proofs.Math.Seq.{get_or-append_seam}
 use Rattle.std.proofs.lemmas.Bool.{cases_lt}
 use Rattle.std.proofs.lemmas.List.{length-map, get_or_append_left}
@@ -8,7 +9,7 @@ use Rattle.cs_match.specs.declared.position.Input.{Input}
 use Rattle.cs_match.specs.declared.position.Mask.{Mask}
 use Rattle.cs_match.specs.declared.position.Position.{Position}
 use Rattle.cs_match.specs.Glushkov.{position_count}
-use Rattle.cs_match.specs.Entered.{position_list, if_entered, if_previous, if_kept}
+use Rattle.cs_match.specs.Entered.{position_list}
 use Rattle.cs_match.specs.Masks.{IsMask}
 use Rattle.cs_match.proofs.EnteredLemmas.{length-position_list}
 
@@ -17,26 +18,18 @@ pub all_put : (f : Position → Bool) (ps : List Position) (new : List Bool) (n 
 all_put f ps new n size all each = ext_get_or false new (map f ps) (size ∙ sym (length-map ps f))
     (λ k h. each k (omega (arith, h, size, all)))
 
--- the mask that was found
-pub found : (ps : List Position) (slots : List Mask) (at : ℕ) (mask : Mask) → mask ≡ get_or slots at mask →
-    ((other : Mask) → IsMask ps (get_or slots at other)) → IsMask ps mask
-found ps slots at mask e h = subst (IsMask ps) (sym e) (h mask)
+input_or : Input → Option Input → Input
+input_or other None = other
+input_or other (Some b) = b
 
-pub found_input : (b : Input) (slots : List Mask) (at : ℕ) (mask : Mask) → mask ≡ get_or slots at mask →
-    ((other : Mask) → (get_or slots at other).input ≡ b) → mask.input ≡ b
-found_input b slots at mask e h = ap (λ (m : Mask). m.input) e ∙ h mask
+pub some_same : (a b : Input) → Some a ≡ Some b → a ≡ b
+unfolding input_or
+some_same a b e = ap (input_or a) e
 
--- the mask of an input, for the positions of a tree
-module _ (t : Tree) (ps : List Position) (mask : Mask) (b : Input) (is : IsMask ps mask) (input : mask.input ≡ b)
-    (all : ps ≡ position_list t) where
-  pub mask_entered : mask.entered ≡ map (if_entered b) (position_list t)
-  mask_entered = is.entered ∙ ap (λ (i : Input). map (if_entered i) ps) input ∙ ap (map (if_entered b)) all
-
-  pub mask_previous : mask.previous ≡ map (if_previous b) (position_list t)
-  mask_previous = is.previous ∙ ap (λ (i : Input). map (if_previous i) ps) input ∙ ap (map (if_previous b)) all
-
-  pub mask_kept : mask.kept ≡ map (if_kept b) (position_list t)
-  mask_kept = is.kept ∙ ap (λ (i : Input). map (if_kept i) ps) input ∙ ap (map (if_kept b)) all
+-- the mask of an input that was found
+pub found : (ps : List Position) (b : Input) (slots : List Mask) (at : ℕ) (mask : Mask) → mask ≡ get_or slots at mask →
+    ((other : Mask) → IsMask ps b (get_or slots at other)) → IsMask ps b mask
+found ps b slots at mask e h = subst (IsMask ps b) (sym e) (h mask)
 
 -- it has a bit for each position
 pub length-mask : (t : Tree) (f : Position → Bool) (flags : List Bool) → flags ≡ map f (position_list t) → length flags ≡ position_count t

@@ -321,6 +321,10 @@ run_final (suc n) p ms a some =
     let last : p + suc n - 1 ≡ p + n = omega arith in
     ap (λ k. get_or ms k false) last ∙ sym (get_or-drop p ms n false) ∙ sym (is_final_run n (drop p ms) a)
 
+pub nullable_run : (n : ℕ) (a : LookAround) → 0 < n → false ≡ nullable (run n) a
+nullable_run zero a some = absurd (omega (arith, some))
+nullable_run (suc n) a some = refl
+
 pub run_accepts : (n p : ℕ) (enter : Bool) (ms : List Bool) (a : LookAround) → 0 < n → get_or ms (p + n - 1) false
     ≡ accepts (run n) enter (drop p ms) a
 run_accepts zero p enter ms a some = absurd (omega (arith, some))

@@ -1,6 +1,6 @@
 -- Byte classes (RE2's byte map): one partition of the bytes that no state of a tree tells apart.
 use Rattle.std.specs.Prelude.{ℕ, suc, ◌≡◌, ◌<◌, ◌≤◌, ◌⊎◌, Bool, false, List, length, nat_eq, slice_index}
-use Rattle.cs_syntax.specs.Matching.{Tree, Trees, empty, one_of, one_char, cat, alt, rep, line_start, line_end, word_edge, not_word_edge, none, more, member}
+use Rattle.cs_syntax.specs.Matching.{Tree, Trees, one_of, one_char, cat, alt, rep, none, more, member}
 use Rattle.cs_syntax.specs.Characters.{has_char}
 use Rattle.cs_syntax.specs.CharSteps.{char_step}
 use Rattle.cs_syntax.specs.declared.char_step.Unfinished.{Unfinished}
@@ -21,16 +21,12 @@ pub record AreAlike (t : Tree) (state : State) (b c : ℕ) : Type 0 where
 -- each set of the tree has both bytes or neither
 abbrev mutual
   pub HaveBoth : Tree → ℕ → ℕ → Type 0
-  HaveBoth empty b c = Unit {0}
   HaveBoth (one_of set) b c = member set b ≡ member set c
   HaveBoth (one_char ranges) b c = has_char ranges b ≡ has_char ranges c
   HaveBoth (cat ts) b c = AllHaveBoth ts b c
   HaveBoth (alt ts) b c = AllHaveBoth ts b c
   HaveBoth (rep x n m) b c = HaveBoth x b c
-  HaveBoth line_start b c = Unit {0}
-  HaveBoth line_end b c = Unit {0}
-  HaveBoth word_edge b c = Unit {0}
-  HaveBoth not_word_edge b c = Unit {0}
+  HaveBoth leaf b c = Unit {0}
 
   pub AllHaveBoth : Trees → ℕ → ℕ → Type 0
   AllHaveBoth none b c = Unit {0}

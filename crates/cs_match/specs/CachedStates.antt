@@ -1,5 +1,5 @@
 -- The states that a lazy DFA has cached, in flat vectors.
-use Rattle.std.specs.Prelude.{ℕ, ◌≡◌, List, [], ◌∷◌, Bool, take, drop}
+use Rattle.std.specs.Prelude.{ℕ, ◌≡◌, List, [], ◌∷◌, take, drop}
 use Rattle.cs_match.specs.declared.state.Behind.{Behind}
 use Rattle.cs_match.specs.declared.state.State.{State}
 use Rattle.cs_match.specs.PositionSet.{positions_of, IsPositionSet}

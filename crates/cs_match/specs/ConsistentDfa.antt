@@ -1,12 +1,11 @@
 -- What contracts see of the lazy DFA, and its invariant.
-use Rattle.std.specs.Prelude.{ℕ, ◌≡◌, ◌≢◌, List, ◌<◌, ◌≤◌, ◌-◌, ◌/◌, length, refl, vec_capacity}
+use Rattle.std.specs.Prelude.{ℕ, ◌≡◌, ◌≢◌, List, ◌<◌, ◌≤◌, ◌/◌, length, refl, vec_capacity}
 use Rattle.std.specs.Coded.{Coded, code_by, coded×}
 use Rattle.cs_syntax.specs.Matching.{Tree}
 use Rattle.cs_syntax.specs.TreeCode.{tree_code}
 use Rattle.cs_match.specs.declared.state.State.{State}
 use Rattle.cs_match.specs.declared.dfa.StateCache.{StateCache}
 use Rattle.cs_match.specs.contracts.dfa.StateCache.{the_row}
-use Rattle.cs_match.specs.Automaton.{Automaton}
 use Rattle.cs_match.specs.ByteClasses.{AreClasses}
 use Rattle.cs_match.specs.Glushkov.{position_count, IsExpanded}
 use Rattle.cs_match.specs.Masks.{IsScratch}
@@ -30,11 +29,6 @@ dfa_code =
 -- the number of byte classes
 abbrev pub count_in : Dfa → ℕ
 count_in t = t.states.classes.count
-
--- what contracts see of the DFA with a list and its counter; the first four states are no others than the start state
-abbrev pub automaton_of : Dfa → List ℕ → Steps → Automaton
-automaton_of t ends steps =
-    record { tree = t.tree; states = length t.states.cached.items - 4; ends = ends; steps = steps.count }
 
 -- the tree is expanded, the classes, the states and the table are correct, and the memory has the right size
 pub record IsConsistent (tree : Tree) (of : StateCache) : Type 0 where

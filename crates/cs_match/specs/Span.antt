@@ -1,6 +1,6 @@
 -- Where in a line a tree matches: the leftmost match, and of those that begin there the longest (POSIX, `grep -o`, RE2's
 -- longest_match). docs/PATTERNS.md, "Where a match is".
-use Rattle.std.specs.Prelude.{ℕ, suc, ◌≡◌, ◌+◌, ◌≤◌, Bool, true, false, List, [], ◌∷◌, ◌++◌, length}
+use Rattle.std.specs.Prelude.{ℕ, suc, ◌≡◌, ◌≤◌, Bool, true, false, List, [], ◌∷◌, ◌++◌, length}
 use Rattle.cs_syntax.specs.Matching.{Tree, MatchesSpan, word_before, word_after}
 
 -- A whole word: no word byte stands before it, and none after it (`grep -w`). The bytes in it may be any.

@@ -1,12 +1,8 @@
 // Byte classes (RE2's byte map): one partition of the bytes into ranges that no state of a program
 // tells apart. A transition is computed once for the bytes of a class.
-ghost use Rattle.std.specs.Prelude.{◌≡◌, ◌&&◌, ◌+◌, ◌<◌, ◌≤◌, ℕ, length, true, false, slice_index};
-ghost use Rattle.cs_syntax.specs.Matching.{member, is_word};
-ghost use Rattle.cs_syntax.specs.Cuts.{AreCuts, AreCutsOf};
-ghost use Rattle.cs_syntax.specs.Node.{tree_of};
-ghost use Rattle.cs_match.specs.LookBehind.{look_behind};
-ghost use Rattle.cs_match.specs.ByteClasses.{AreClasses, AreNumbered, HaveFirsts, StepAlike, begins_at, HaveBoth, AddsMarks};
-ghost use Rattle.cs_match.specs.Digits.{IsNoDigit};
+ghost use Rattle.std.specs.Prelude.{◌≡◌, ◌+◌, ◌<◌, ◌≤◌, ℕ, length, true, false, slice_index};
+ghost use Rattle.cs_match.specs.Cited.{member, AreCutsOf, tree_of, look_behind, AreClasses, AreNumbered, HaveFirsts, StepAlike, begins_at, HaveBoth, AddsMarks, IsNoDigit};
+ghost use Rattle.cs_syntax.specs.Cuts.{AreCuts};
 
 use crate::state::LookBehind;
 use cs_syntax::{ByteSet, CharStep, Cuts, Node, Unfinished};
@@ -18,7 +14,6 @@ pub(crate) struct ByteClasses {
     pub(crate) of: [u8; 256],
     /// The first byte of the class of each byte.
     pub(crate) firsts: [u8; 256],
-    /// The number of classes.
     pub(crate) count: u16,
 }
 
@@ -34,13 +29,15 @@ impl ByteClasses {
         begins[b'\n' as usize + 1] = 1;
         // Most text is ASCII: transitions over other bytes would be stored in vain.
         begins[0x80] = 1;
-        mark_words(&mut begins, bits);
+        mark_set(&ByteSet::of(|byte| bits.is_word(byte as u8)), &mut begins);
         mark_sets(root, &mut begins);
-        mark_cuts(&mut begins, bits, cuts);
+        if bits.char {
+            mark_digits(&mut begins, cuts.as_slice());
+            mark_leads(&mut begins, cuts);
+        }
         number_classes(&begins)
     }
 
-    /// The first byte of the class of a byte.
     pub(crate) fn first(&self, byte: u8) -> u8
         requires { HaveFirsts self.now }
         ensures low { result ≤ byte }
@@ -66,19 +63,8 @@ fn number_classes(begins: &[u8; 256]) -> ByteClasses
         of[byte] = last;
         firsts[byte] = first;
     }
-    ByteClasses {
-        of,
-        firsts,
-        count: u16::from(last) + 1,
-    }
-}
-
-/// Marks where word bytes begin and end, if the bits have one for them.
-fn mark_words(begins: &mut [u8], bits: LookBehind)
-    requires { length begins.old ≡ 256 }
-    ensures { AddsMarks (λ b c. (is_word b && bits.word) ≡ (is_word c && bits.word)) begins.old begins.new }
-{
-    mark_set(&ByteSet::of(|byte| bits.is_word(byte as u8)), begins);
+    let count = u16::from(last) + 1;
+    ByteClasses { of, firsts, count }
 }
 
 /// Marks where the members of each set of the tree begin and end.
@@ -124,18 +110,6 @@ fn mark(begins: &mut [u8], byte: u8, before: bool, here: bool)
 {
     if before != here {
         begins[byte as usize] = 1;
-    }
-}
-
-/// Marks where bytes change what they do to an unfinished character, if the bits have one for it.
-fn mark_cuts(begins: &mut [u8], bits: LookBehind, cuts: &Cuts)
-    requires bytes { length begins.old ≡ 256 }
-    requires cuts { AreCuts cuts.now }
-    ensures { AddsMarks (λ b c. bits.char ≡ true → StepAlike cuts.now b c) begins.old begins.new }
-{
-    if bits.char {
-        mark_digits(begins, cuts.as_slice());
-        mark_leads(begins, cuts);
     }
 }
 

@@ -1,9 +1,7 @@
 // The states that a lazy DFA has cached, in flat vectors, and a hash table to look them up.
-ghost use Rattle.std.specs.Prelude.{◌≡◌, ◌+◌, ◌*◌, ◌<◌, ◌≤◌, ◌∷◌, ◌++◌, [], IfOk, IfSome, length, take, slice_index_or, true};
+ghost use Rattle.std.specs.Prelude.{◌≡◌, ◌+◌, ◌*◌, ◌<◌, ◌≤◌, ◌∷◌, ◌++◌, [], IfOk, IfSome, length, take, slice_index_or};
 ghost use Rattle.cs_match.specs.declared.state.State.{State};
-ghost use Rattle.cs_match.specs.PositionSet.{positions_of, IsPositionSet};
-ghost use Rattle.cs_match.specs.Work.{words};
-ghost use Rattle.cs_prefilter.specs.CountsAtMost.{CountsAtMost};
+ghost use Rattle.cs_match.specs.Cited.{positions_of, IsPositionSet, words, CountsAtMost};
 
 use crate::state::{Behind, State};
 use cs_prefilter::Steps;
@@ -29,9 +27,7 @@ pub(crate) struct CachedStates {
     behinds: Vec<Behind>,
     /// The hash table: a slot at each place, in use if it is that of a state with this place.
     slots: Vec<u16>,
-    /// The place of each state.
     places: Vec<u32>,
-    /// The most states.
     most: usize,
     /// The number of positions.
     count: usize,
@@ -85,21 +81,18 @@ impl CachedStates {
         })
     }
 
-    /// The number of states.
     pub(crate) fn len(&self) -> usize
         ensures { result ≡ length self.now.items }
     {
         self.behinds.len()
     }
 
-    /// The most states.
     pub(crate) fn most(&self) -> usize
         ensures { result ≡ self.now.most }
     {
         self.most
     }
 
-    /// The words of the positions of a state.
     fn set(&self, slot: usize) -> &[u64]
         requires { slot < length self.now.items }
         ensures set { IsPositionSet result.now self.now.positions }
@@ -111,7 +104,6 @@ impl CachedStates {
         &self.sets[start..start + words]
     }
 
-    /// The rest of a state.
     fn behind(&self, slot: usize) -> Behind
         requires { slot < length self.now.items }
         ensures { (other : State) → result ≡ (slice_index_or self.now.items slot other).behind }
@@ -137,16 +129,12 @@ impl CachedStates {
                 return Lookup { slot: None, place };
             }
             if self.behind(slot) == state.behind && self.set(slot) == state.positions.words() {
-                return Lookup {
-                    slot: Some(slot),
-                    place,
-                };
+                let slot = Some(slot);
+                return Lookup { slot, place };
             }
         }
-        Lookup {
-            slot: None,
-            place: home,
-        }
+        let place = home;
+        Lookup { slot: None, place }
     }
 
     /// Makes a cached state this one.

@@ -1,23 +1,8 @@
 // Lazy DFA (RE2): subset construction on demand over Glushkov positions (`specs/Glushkov.antt`),
 // with a bounded cache of states that is cleared when it is full.
 ghost use Rattle.std.specs.Prelude.{◌≡◌, ◌≢◌, ◌↔◌, ◌+◌, ◌-◌, ◌<◌, ◌≤◌, ◌*◌, ℕ, Bool, List, ◌∷◌, IfOk, IsTrue, length, drop, slice_index, slice_range, vec_capacity, true, false};
-ghost use Rattle.cs_syntax.specs.Matching.{HasMatch};
-ghost use Rattle.cs_tree.specs.ByteList.{AreBytes};
-ghost use Rattle.cs_match.specs.Work.{words, byte_work, line_work};
-ghost use Rattle.cs_match.specs.Deciding.{Decides};
-ghost use Rattle.cs_match.specs.Table.{next_number, number_after, table_start, unknown, HasRows, TellsLines};
-ghost use Rattle.cs_match.specs.Scanned.{HasScanned, FollowsKnown, ListsLine, PassesLines};
-ghost use Rattle.cs_match.specs.Lines.{newline};
-ghost use Rattle.cs_match.specs.Skipping.{AreWholeLines};
-ghost use Rattle.cs_match.specs.Skipped.{AreLinesBetween};
-ghost use Rattle.cs_match.specs.Lanes.{AreListed};
-ghost use Rattle.cs_match.specs.Glushkov.{position_count, cuts_of};
-ghost use Rattle.cs_match.specs.Digits.{IsBlock};
-ghost use Rattle.cs_match.specs.States.{successor, accepts_before, IsDead};
-ghost use Rattle.cs_match.specs.LazyDfa.{until_newline, accepted_number, most_rows, AreFirstRows, start_number};
+ghost use Rattle.cs_match.specs.Cited.{HasMatch, AreBytes, words, byte_work, line_work, Decides, next_number, number_after, table_start, unknown, HasRows, TellsLines, HasScanned, FollowsKnown, ListsLine, PassesLines, newline, AreWholeLines, AreLinesBetween, AreListed, position_count, cuts_of, IsBlock, successor, accepts_before, IsDead, until_newline, accepted_number, most_rows, AreFirstRows, start_number, CountsAtMost, StepsWithin, IsKnown, IsTableOf, table_in, HasSlot, HasState, LeadsIn, count_in, state_in};
 ghost use Rattle.cs_match.specs.declared.state.State.{State};
-ghost use Rattle.cs_prefilter.specs.CountsAtMost.{CountsAtMost};
-ghost use Rattle.cs_match.specs.ConsistentDfa.{StepsWithin, IsKnown, IsTableOf, table_in, HasSlot, HasState, LeadsIn, count_in, state_in};
 
 use crate::byte_classes::ByteClasses;
 use crate::cached_states::CachedStates;
@@ -48,7 +33,7 @@ const MOST_WORDS: usize = 262144;
 
 /// How many ends of matching lines are listed, and the offset up to which.
 #[derive(Clone, Copy)]
-pub(crate) struct ListedLines {
+pub(crate) struct EndList {
     pub(crate) count: usize,
     pub(crate) to: usize,
 }
@@ -66,13 +51,10 @@ struct Scan {
 pub(crate) struct StateCache {
     /// The transition table: a row for each state, with a transition for each class of bytes.
     pub(crate) transitions: Vec<u16>,
-    /// The classes of the program.
     pub(crate) classes: ByteClasses,
-    /// The cached states.
     pub(crate) cached: CachedStates,
     /// The state under construction.
     pub(crate) scratch: State,
-    /// The memory of the steps.
     pub(crate) memory: Scratch,
 }
 
@@ -239,34 +221,24 @@ impl<'a> LazyDfa<'a> {
         ensures known { IsKnown self.old scan.number (drop scan.to text.now) →
             FollowsKnown self.old self.new text.now scan result steps.old steps.new }
     {
-        let known = self.follow_known(text, scan);
-        steps.add(known.to - scan.to);
-        if known.to == text.len() {
-            return known;
+        let seen = self.follow_known(text, scan);
+        steps.add(seen.to - scan.to);
+        if seen.to == text.len() {
+            return seen;
         }
-        let number = self.next(known.number, text[known.to], steps);
-        let to = known.to + 1;
+        let number = self.next(seen.number, text[seen.to], steps);
+        let to = seen.to + 1;
         let count = self.states.classes.count;
         let dead = DEAD * count;
         if number == MATCH * count {
-            return Scan {
-                to: line_end(text, to, steps) + 1,
-                number: Table::FOUND,
-                ..known
-            };
+            let (to, number) = (line_end(text, to, steps) + 1, Table::FOUND);
+            return Scan { to, number, ..seen };
         }
         if number == dead {
-            return Scan {
-                to: line_end(text, to, steps) + 1,
-                number: START * count,
-                ..known
-            };
+            let (to, number) = (line_end(text, to, steps) + 1, START * count);
+            return Scan { to, number, ..seen };
         }
-        Scan {
-            to,
-            number,
-            ..known
-        }
+        Scan { to, number, ..seen }
     }
 
     /// Moves on by known transitions, up to the byte whose transition is special or unknown.
@@ -289,11 +261,8 @@ impl<'a> LazyDfa<'a> {
             }
             number = next;
         }
-        Scan {
-            to: text.len(),
-            number,
-            ..scan
-        }
+        let to = text.len();
+        Scan { to, number, ..scan }
     }
 
     /// Computes an unknown transition, and stores it unless the cache is full.
@@ -441,7 +410,7 @@ impl<'a> LazyDfa<'a> {
         part: Range<usize>,
         ends: &mut [usize],
         steps: &mut Steps,
-    ) -> ListedLines
+    ) -> EndList
         requires lines { AreLinesBetween block.now part.start part.end }
         requires room { 0 < length ends.old }
         ensures listed { AreListed (λ has_match. Decides has_match self.old.tree)
@@ -471,6 +440,6 @@ impl<'a> LazyDfa<'a> {
                 count += 1;
             }
         }
-        ListedLines { count, to: scan.to }
+        EndList { count, to: scan.to }
     }
 }

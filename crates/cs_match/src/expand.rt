@@ -1,9 +1,6 @@
 // Expansion of counted repeats, and of alternations of single bytes to sets (RE2's simplification).
 ghost use Rattle.std.specs.Prelude.{◌≡◌, IfOk, OnOk, None, if◌then◌else◌};
-ghost use Rattle.cs_syntax.specs.Matching.{rep};
-ghost use Rattle.cs_syntax.specs.Node.{tree_of};
-ghost use Rattle.cs_syntax.specs.NodeList.{trees_of};
-ghost use Rattle.cs_match.specs.Expansion.{expansion, expansions, with_copies, optional, repeat_expansion, union_of, alternation};
+ghost use Rattle.cs_match.specs.Cited.{rep, tree_of, trees_of, expansion, expansions, with_copies, optional, repeat_expansion, union_of, alternation};
 
 use cs_syntax::{ByteSet, Node};
 use std::alloc::{AllocError, Global};

@@ -2,19 +2,10 @@
 // each visits a part once: the first, bottom-up, computes for each repeat whether its body is
 // final; the second, top-down, finds which positions are entered. Then all positions are moved over
 // the byte at once. Cursors count the positions and repeats that were visited.
-ghost use Rattle.std.specs.Prelude.{◌≡◌, ℕ, ◌+◌, ◌*◌, ◌<◌, ◌≤◌, ◌^◌, ◌%◌, ◌==◌, ◌&&◌, ◌||◌, IfOk, length, take, drop, true, false, ◌++◌};
+ghost use Rattle.std.specs.Prelude.{◌≡◌, ℕ, ◌+◌, ◌*◌, ◌<◌, ◌≤◌, ◌^◌, ◌%◌, ◌==◌, ◌&&◌, ◌||◌, IfOk, length, take, true, false};
 ghost use Rattle.std.specs.Int.{bit_at};
-ghost use Rattle.cs_syntax.specs.Node.{tree_of};
-ghost use Rattle.cs_syntax.specs.Matching.{alt};
-ghost use Rattle.cs_match.specs.Glushkov.{position_count, position_count_of, repeats, nullable, accepts, loop_ends, step, IsExpanded};
-ghost use Rattle.cs_match.specs.Entered.{entered, AreShifted};
-ghost use Rattle.cs_match.specs.Parts.{run, runs, options, shape_of, size_of};
-ghost use Rattle.cs_match.specs.Traversal.{IsNoted, accepted_from, accepted_in, entries_after, entries_in, final_from, loops_after, position_past, repeat_past};
-ghost use Rattle.cs_match.specs.Size.{nodes};
-ghost use Rattle.cs_match.specs.Work.{words, step_work};
-ghost use Rattle.cs_match.specs.Masks.{IsScratch};
+ghost use Rattle.cs_match.specs.Cited.{tree_of, alt, position_count, position_count_of, repeats, nullable, accepts, loop_ends, step, IsExpanded, entered, run, runs, options, shape_of, size_of, EndsFrom, Enters, HasRoomAt, IsNoted, loops_after, position_past, repeat_past, nodes, words, step_work, IsScratch, CountsAtMost};
 ghost use Rattle.cs_match.specs.declared.state.LookAround.{LookAround};
-ghost use Rattle.cs_prefilter.specs.CountsAtMost.{CountsAtMost};
 
 use crate::parts::{Fragment, Sequences};
 use crate::position::{Input, Masks};
@@ -134,7 +125,7 @@ struct Configuration<'a> {
 /// An offset of a line: whether a match may begin there, and the look-around.
 #[derive(Clone, Copy)]
 pub(crate) struct Offset {
-    pub(crate) may_begin: bool,
+    pub(crate) begins: bool,
     pub(crate) here: LookAround,
 }
 
@@ -149,23 +140,14 @@ pub(crate) fn step_over(
 ) -> bool
     requires one_each { length positions.old ≡ position_count program.now }
     requires scratch { IsScratch program.now scratch.old }
-    ensures accepting { result ≡ accepts program.now at.may_begin positions.old at.here }
-    ensures positions { positions.new ≡ step program.now at.may_begin positions.old at.here input }
+    ensures accepting { result ≡ accepts program.now at.begins positions.old at.here }
+    ensures positions { positions.new ≡ step program.now at.begins positions.old at.here input }
     ensures scratch { IsScratch program.now scratch.new }
     ensures cost { CountsAtMost (step_work program.now) steps.old steps.new }
 {
     let accepting = enter(program, at, positions, scratch, steps);
-    let slot = scratch
-        .masks
-        .find(program.positions(), program.byte_classes(), input, steps);
-    let mask = &scratch.masks.slots[slot];
-    positions.move_over(
-        &scratch.entries,
-        &mask.entered,
-        &mask.previous,
-        &mask.kept,
-        steps,
-    );
+    let slot = scratch.masks.find(program, input, steps);
+    positions.move_over(&scratch.entries, &scratch.masks.slots[slot], steps);
     accepting
 }
 
@@ -179,30 +161,24 @@ pub(crate) fn enter(
 ) -> bool
     requires one_each { length positions.now ≡ position_count program.now }
     requires scratch { IsScratch program.now scratch.old }
-    ensures accepting { result ≡ accepts program.now at.may_begin positions.now at.here }
+    ensures accepting { result ≡ accepts program.now at.begins positions.now at.here }
     ensures entries { take (position_count program.now) scratch.new.entries
-        ≡ entered program.now at.may_begin positions.now at.here }
+        ≡ entered program.now at.begins positions.now at.here }
     ensures scratch { IsScratch program.now scratch.new }
     ensures cost { CountsAtMost (2 * nodes program.now + words (position_count program.now + 1))
         steps.old steps.new }
 {
     let part = program.part();
     note_loops(part, positions, &mut scratch.loops, at.here, steps);
-    scratch.entries.shift_from(positions, steps);
-    let mut cursor = START;
+    let entries = &mut scratch.entries;
+    entries.shift_from(positions, steps);
     let here = Configuration {
         positions,
         loops: &scratch.loops,
         here: at.here,
     };
-    advance(
-        part,
-        at.may_begin,
-        &here,
-        &mut scratch.entries,
-        &mut cursor,
-        steps,
-    )
+    let mut cursor = START;
+    advance(part, at.begins, &here, entries, &mut cursor, steps)
 }
 
 /// Stores for each repeat whether its body is final here.
@@ -235,11 +211,8 @@ fn find_ends(
 ) -> Ends
     requires room { position_past (shape_of part.now) cursor.old ≤ length positions.now }
     requires within { repeat_past (shape_of part.now) cursor.old ≤ length loops.old }
-    ensures accepting { result.accepting ≡ final_from (shape_of part.now) cursor.old positions.now here }
-    ensures nullable { result.nullable ≡ nullable (shape_of part.now) here }
+    ensures ends { EndsFrom (shape_of part.now) cursor.old positions.now here result cursor.new }
     ensures noted { loops.new ≡ loops_after (shape_of part.now) cursor.old positions.now here loops.old }
-    ensures position { cursor.new.position ≡ position_past (shape_of part.now) cursor.old }
-    ensures repeat { cursor.new.repeat ≡ repeat_past (shape_of part.now) cursor.old }
     ensures cost { steps.new.count ≡ steps.old.count + size_of part.now }
 {
     steps.add(1);
@@ -280,12 +253,8 @@ fn find_ends(
 
 /// The ends of a run: its last position, or the empty span if it has none.
 fn end_run(n: usize, positions: &PositionSet, cursor: &mut Cursor) -> Ends
-    requires { cursor.old.position + n ≤ length positions.now }
-    ensures accepting { (here : LookAround) →
-        result.accepting ≡ final_from (run n) cursor.old positions.now here }
-    ensures nullable { (here : LookAround) → result.nullable ≡ nullable (run n) here }
-    ensures position { cursor.new.position ≡ cursor.old.position + n }
-    ensures repeat { cursor.new.repeat ≡ cursor.old.repeat }
+    requires { position_past (run n) cursor.old ≤ length positions.now }
+    ensures { (here : LookAround) → EndsFrom (run n) cursor.old positions.now here result cursor.new }
 {
     if n == 0 {
         return Ends::within(true);
@@ -304,37 +273,27 @@ fn end_run(n: usize, positions: &PositionSet, cursor: &mut Cursor) -> Ends
 fn enter_run(
     n: usize,
     enter: bool,
-    positions: &PositionSet,
+    at: &Configuration<'_>,
     entries: &mut PositionSet,
     cursor: &mut Cursor,
 ) -> bool
-    requires room { cursor.old.position + n ≤ length positions.now }
-    requires shifted { AreShifted cursor.old.position positions.now entries.old }
-    ensures accepting { (here : LookAround) →
-        result ≡ accepted_from (run n) enter cursor.old positions.now here }
-    ensures entries { (here : LookAround) → entries.new ≡ take cursor.old.position entries.old
-        ++ (entered (run n) enter (drop cursor.old.position positions.now) here
-        ++ drop (cursor.old.position + n) entries.old) }
-    ensures position { cursor.new.position ≡ cursor.old.position + n }
-    ensures repeat { cursor.new.repeat ≡ cursor.old.repeat }
+    requires { HasRoomAt (run n) cursor.old at.now entries.old }
+    ensures { Enters (run n) enter cursor.old at.now entries.old result entries.new cursor.new }
 {
     if n == 0 {
         return enter;
     }
-    prove!(n <= positions.len() - cursor.position);
+    prove!(n <= at.positions.len() - cursor.position);
     entries.put(cursor.position, enter);
     cursor.position += n;
-    positions.get(cursor.position - 1)
+    at.positions.get(cursor.position - 1)
 }
 
 /// The ends of options: the last position of each, or the empty span.
 fn end_options(n: usize, count: usize, positions: &PositionSet, cursor: &mut Cursor) -> Ends
-    requires { cursor.old.position + position_count (options n count) ≤ length positions.now }
-    ensures accepting { (here : LookAround) →
-        result.accepting ≡ final_from (options n count) cursor.old positions.now here }
-    ensures nullable { (here : LookAround) → result.nullable ≡ nullable (options n count) here }
-    ensures position { cursor.new.position ≡ cursor.old.position + position_count (options n count) }
-    ensures repeat { cursor.new.repeat ≡ cursor.old.repeat }
+    requires { position_past (options n count) cursor.old ≤ length positions.now }
+    ensures { (here : LookAround) →
+        EndsFrom (options n count) cursor.old positions.now here result cursor.new }
 {
     if are_many(n, count) {
         // The row is within the set, so its end does not overflow.
@@ -360,58 +319,33 @@ fn enter_options(
     n: usize,
     count: usize,
     enter: bool,
-    positions: &PositionSet,
+    at: &Configuration<'_>,
     entries: &mut PositionSet,
     cursor: &mut Cursor,
 ) -> bool
-    requires room { cursor.old.position + position_count (options n count) ≤ length positions.now }
-    requires shifted { AreShifted cursor.old.position positions.now entries.old }
-    ensures accepting { (here : LookAround) →
-        result ≡ accepted_from (options n count) enter cursor.old positions.now here }
-    ensures entries { (here : LookAround) →
-        entries.new ≡ entries_after (options n count) enter cursor.old positions.now here entries.old }
-    ensures position { cursor.new.position ≡ cursor.old.position + position_count (options n count) }
-    ensures repeat { cursor.new.repeat ≡ cursor.old.repeat }
+    requires { HasRoomAt (options n count) cursor.old at.now entries.old }
+    ensures { Enters (options n count) enter cursor.old at.now entries.old result entries.new cursor.new }
 {
     if are_many(n, count) {
-        return enter_many(n, count, enter, positions, entries, cursor);
+        // The row is within the entries, so neither its end nor the next offset overflows.
+        prove!(cursor.position < entries.len());
+        let from = cursor.position;
+        let end = from + count * n;
+        cursor.position = end;
+        let last = at
+            .positions
+            .first_in(from, end, option_bits(n, from + n - 1));
+        entries.put(from, enter);
+        // All options after one that ends are entered.
+        let first = if enter { from } else { last + 1 };
+        entries.fill(first, end, option_bits(n, from));
+        return enter | (last < end);
     }
     let mut accepting = enter;
     for k in 0..count {
-        accepting = enter_run(n, accepting, positions, entries, cursor) | accepting;
+        accepting = enter_run(n, accepting, at, entries, cursor) | accepting;
     }
     accepting
-}
-
-/// The same by words of 64 positions. All options after one that ends are entered.
-fn enter_many(
-    n: usize,
-    count: usize,
-    enter: bool,
-    positions: &PositionSet,
-    entries: &mut PositionSet,
-    cursor: &mut Cursor,
-) -> bool
-    requires many { (0 < n) × (n ≤ 2) × (0 < count) }
-    requires room { cursor.old.position + position_count (options n count) ≤ length positions.now }
-    requires shifted { AreShifted cursor.old.position positions.now entries.old }
-    ensures accepting { (here : LookAround) →
-        result ≡ accepted_from (options n count) enter cursor.old positions.now here }
-    ensures entries { (here : LookAround) →
-        entries.new ≡ entries_after (options n count) enter cursor.old positions.now here entries.old }
-    ensures position { cursor.new.position ≡ cursor.old.position + position_count (options n count) }
-    ensures repeat { cursor.new.repeat ≡ cursor.old.repeat }
-{
-    // The row is within the entries, so neither its end nor the next offset overflows.
-    prove!(cursor.position < entries.len());
-    let from = cursor.position;
-    let end = from + count * n;
-    cursor.position = end;
-    let last = positions.first_in(from, end, option_bits(n, from + n - 1));
-    entries.put(from, enter);
-    let first = if enter { from } else { last + 1 };
-    entries.fill(first, end, option_bits(n, from));
-    enter | (last < end)
 }
 
 /// Whether options are entered by words: they are short, and so many that this is faster.
@@ -440,12 +374,9 @@ fn end_sequences(
     cursor: &mut Cursor,
     steps: &mut Steps,
 ) -> Ends
-    requires { cursor.old.position + position_count_of (runs sequences.now) ≤ length positions.now }
-    ensures accepting { (here : LookAround) →
-        result.accepting ≡ final_from (alt (runs sequences.now)) cursor.old positions.now here }
-    ensures nullable { (here : LookAround) → result.nullable ≡ nullable (alt (runs sequences.now)) here }
-    ensures position { cursor.new.position ≡ position_past (alt (runs sequences.now)) cursor.old }
-    ensures repeat { cursor.new.repeat ≡ cursor.old.repeat }
+    requires { position_past (alt (runs sequences.now)) cursor.old ≤ length positions.now }
+    ensures ends { (here : LookAround) →
+        EndsFrom (alt (runs sequences.now)) cursor.old positions.now here result cursor.new }
     ensures cost { steps.new.count ≡ steps.old.count + words (position_count_of (runs sequences.now)) }
 {
     let from = cursor.position;
@@ -463,28 +394,23 @@ fn end_sequences(
 fn enter_sequences(
     sequences: &Sequences,
     enter: bool,
-    positions: &PositionSet,
+    at: &Configuration<'_>,
     entries: &mut PositionSet,
     cursor: &mut Cursor,
     steps: &mut Steps,
 ) -> bool
-    requires room { cursor.old.position + position_count_of (runs sequences.now) ≤ length positions.now }
-    requires shifted { AreShifted cursor.old.position positions.now entries.old }
-    ensures accepting { (here : LookAround) →
-        result ≡ accepted_from (alt (runs sequences.now)) enter cursor.old positions.now here }
-    ensures entries { (here : LookAround) → entries.new ≡ entries_after (alt (runs sequences.now)) enter
-        cursor.old positions.now here entries.old }
-    ensures position { cursor.new.position ≡ position_past (alt (runs sequences.now)) cursor.old }
-    ensures repeat { cursor.new.repeat ≡ cursor.old.repeat }
+    requires { HasRoomAt (alt (runs sequences.now)) cursor.old at.now entries.old }
+    ensures enters { Enters (alt (runs sequences.now)) enter cursor.old at.now entries.old result
+        entries.new cursor.new }
     ensures cost { steps.new.count ≡ steps.old.count + words (position_count_of (runs sequences.now)) }
 {
     let from = cursor.position;
     let n = sequences.lasts().len();
     steps.add(n.div_ceil(64));
-    prove!(n <= positions.len() - from);
+    prove!(n <= at.positions.len() - from);
     cursor.position += n;
     entries.put_all(from, sequences.firsts(), enter);
-    positions.meets(from, sequences.lasts())
+    at.positions.meets(from, sequences.lasts())
 }
 
 /// Finds which positions of the part are entered, and returns whether the part accepts. `enter`
@@ -498,24 +424,21 @@ fn advance(
     cursor: &mut Cursor,
     steps: &mut Steps,
 ) -> bool
-    requires room { position_past (shape_of part.now) cursor.old ≤ length at.now.positions.now }
-    requires shifted { AreShifted cursor.old.position at.now.positions.now entries.old }
+    requires room { HasRoomAt (shape_of part.now) cursor.old at.now entries.old }
     requires noted { IsNoted (shape_of part.now) cursor.old at.now }
-    ensures accepting { result ≡ accepted_in (shape_of part.now) enter cursor.old at.now }
-    ensures entries { entries.new ≡ entries_in (shape_of part.now) enter cursor.old at.now entries.old }
-    ensures position { cursor.new.position ≡ position_past (shape_of part.now) cursor.old }
-    ensures repeat { cursor.new.repeat ≡ repeat_past (shape_of part.now) cursor.old }
+    ensures enters { Enters (shape_of part.now) enter cursor.old at.now entries.old result entries.new
+        cursor.new }
     ensures cost { steps.new.count ≡ steps.old.count + size_of part.now }
 {
     steps.add(1);
     match part {
-        Fragment::Run(n) => enter_run(*n, enter, at.positions, entries, cursor),
+        Fragment::Run(n) => enter_run(*n, enter, at, entries, cursor),
         Fragment::Alternation(sequences) => {
-            enter_sequences(sequences, enter, at.positions, entries, cursor, steps)
+            enter_sequences(sequences, enter, at, entries, cursor, steps)
         }
         Fragment::Options(n, count) => {
             steps.add(*count);
-            enter_options(*n, *count, enter, at.positions, entries, cursor)
+            enter_options(*n, *count, enter, at, entries, cursor)
         }
         Fragment::Cat(parts) => {
             let mut accepting = enter;

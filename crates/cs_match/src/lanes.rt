@@ -2,17 +2,11 @@
 // lines of its chunk; the four lists become one. A lane has one branch for a byte, which is taken
 // at the end of a matching line, and stays in the state unknown where a transition is not known.
 ghost use Rattle.std.specs.Prelude.{◌≡◌, ◌≤◌, ◌<◌, ◌+◌, ◌/◌, ℕ, List, [], ◌∷◌, ◌++◌, length, take, ◌-◌, ◌*◌, drop, slice_index};
-ghost use Rattle.cs_match.specs.Table.{HasRows, next_number, unknown, table_start, IsRow};
-ghost use Rattle.cs_match.specs.MatchingEnds.{newlines_between};
-ghost use Rattle.cs_match.specs.Lanes.{IsLane, AreChunks, AreLanes, IsCut, IsChunk, AreCuts, AreListed};
-ghost use Rattle.cs_match.specs.ConsistentDfa.{StepsWithin};
-ghost use Rattle.cs_match.specs.Skipping.{AreWholeLines};
-ghost use Rattle.cs_match.specs.Deciding.{Decides};
-ghost use Rattle.cs_match.specs.Work.{byte_work};
-ghost use Rattle.cs_prefilter.specs.CountsAtMost.{CountsAtMost};
+ghost use Rattle.cs_match.specs.Cited.{HasRows, next_number, unknown, table_start, IsRow, newlines_between, IsLane, AreChunks, AreLanes, IsCut, IsChunk, AreListed, CountsWithin, AreWholeLines, Decides, byte_work, CountsAtMost};
+ghost use Rattle.cs_match.specs.Lanes.{AreCuts};
 
-use crate::dfa::{LazyDfa, ListedLines};
-use crate::listing::line_end;
+use crate::dfa::EndList;
+use crate::listing::{Lister, line_end};
 use cs_prefilter::Steps;
 use std::ops::Range;
 
@@ -55,7 +49,6 @@ impl Lane {
         }
     }
 
-    /// Lists an offset.
     #[cold]
     fn note(&mut self, at: usize, ends: &mut [usize])
         requires { self.old.count < length ends.old }
@@ -92,24 +85,12 @@ pub(crate) struct Table<'a> {
     pub(crate) transitions: &'a [u16],
     /// The class of each byte. The newline is alone in its class.
     pub(crate) of: &'a [u8; 256],
-    /// The number of classes.
     pub(crate) count: usize,
 }
 
 impl<'a> Table<'a> {
-    /// The number of the state found.
     pub(crate) const FOUND: u16 = 0;
 
-    /// The number of the state unknown.
-    #[inline(always)]
-    pub(crate) fn unknown(self) -> u16
-        requires { HasRows self }
-        ensures { result ≡ unknown self.entry }
-    {
-        self.count as u16
-    }
-
-    /// The number of the start state.
     #[inline(always)]
     pub(crate) fn start(self) -> u16
         requires { HasRows self }
@@ -141,7 +122,7 @@ impl<'a> Table<'a> {
         let mut number = self.start();
         let mut count = 0;
         for b in text {
-            if number <= self.unknown() || number >= self.start() {
+            if number as usize <= self.count || number >= self.start() {
                 count += 1;
             }
             number = self.next(number, *b);
@@ -169,45 +150,42 @@ pub(crate) fn cut(block: &[u8], from: usize, size: usize, steps: &mut Steps) -> 
     line_end(block, from + size, steps) + 1
 }
 
-/// Lists the ends of the matching lines of four chunks, at least of one line. A chunk with an
-/// unknown transition is scanned once more, by one lane.
-pub(crate) fn list_chunks(
-    dfa: &mut LazyDfa<'_>,
-    block: &[u8],
-    from: usize,
-    ends: &mut [usize],
-    steps: &mut Steps,
-) -> ListedLines
-    requires within { from ≤ length block.now }
-    requires whole { AreWholeLines (drop from block.now) }
-    requires room { 4 ≤ length ends.old }
-    ensures listed { AreListed (λ has_match. Decides has_match dfa.old.tree)
-        block.now from result.to result.count ends.new }
-    ensures moves { from < length block.now → from < result.to }
-    ensures work { StepsWithin ((byte_work dfa.old.tree + 2) * (result.to - from)) dfa.old dfa.new
-        steps.old steps.new }
-{
-    let quarter = ends.len() / 4;
-    let size = (quarter - 1).min((block.len() - from) / 4 + LEAST);
-    let cuts = four_chunks(block, from, size, steps);
-    steps.add(cuts[4] - from);
-    let table = dfa.table();
-    let unknown = table.unknown();
-    let lanes = four_lanes(table, block, cuts, ends);
-    let mut count = 0;
-    for k in 0..4usize {
-        let lane = lanes[k];
-        if lane.number == unknown {
-            let own = &mut ends[count..(k + 1) * quarter];
-            let listed = dfa.list_ends(block, cuts[k]..cuts[k + 1], own, steps);
-            count += listed.count;
-        } else {
-            steps.add(lane.count);
-            ends.copy_within(k * quarter..k * quarter + lane.count, count);
-            count += lane.count;
+impl Lister<'_> {
+    /// Lists the ends of the matching lines of four chunks, at least of one line. A chunk with an
+    /// unknown transition is scanned once more, by one lane.
+    pub(crate) fn list_chunks(&mut self, block: &[u8], from: usize, ends: &mut [usize]) -> EndList
+        requires within { from ≤ length block.now }
+        requires whole { AreWholeLines (drop from block.now) }
+        requires room { 4 ≤ length ends.old }
+        ensures listed { AreListed (λ has_match. Decides has_match self.old.dfa.tree)
+            block.now from result.to result.count ends.new }
+        ensures moves { from < length block.now → from < result.to }
+        ensures work { CountsWithin ((byte_work self.old.dfa.tree + 2) * (result.to - from))
+            self.old self.new }
+    {
+        let quarter = ends.len() / 4;
+        let size = (quarter - 1).min((block.len() - from) / 4 + LEAST);
+        let cuts = four_chunks(block, from, size, &mut self.steps);
+        self.steps.add(cuts[4] - from);
+        let table = self.dfa.table();
+        let unknown = table.count;
+        let lanes = four_lanes(table, block, cuts, ends);
+        let mut count = 0;
+        for k in 0..4usize {
+            let lane = lanes[k];
+            if lane.number as usize == unknown {
+                let own = &mut ends[count..(k + 1) * quarter];
+                let part = cuts[k]..cuts[k + 1];
+                let listed = self.dfa.list_ends(block, part, own, &mut self.steps);
+                count += listed.count;
+            } else {
+                self.steps.add(lane.count);
+                ends.copy_within(k * quarter..k * quarter + lane.count, count);
+                count += lane.count;
+            }
         }
+        EndList { count, to: cuts[4] }
     }
-    ListedLines { count, to: cuts[4] }
 }
 
 /// Scans the four chunks between these offsets. Each lane lists the ends of the matching lines of

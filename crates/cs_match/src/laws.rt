@@ -1,14 +1,6 @@
 // Laws of the definitions.
 ghost use Rattle.std.specs.Prelude.{◌≡◌, ◌∷◌, ◌++◌, [], ℕ, Bool, List};
-ghost use Rattle.cs_syntax.specs.Matching.{Tree};
-ghost use Rattle.cs_match.specs.Expansion.{expansion};
-ghost use Rattle.cs_match.specs.Size.{FitsWeight};
-ghost use Rattle.cs_match.specs.Span.{FirstSpansAreUnique, FirstSpansBeginAll, SpansAreUnique};
-ghost use Rattle.cs_match.specs.Glushkov.{IsExpanded};
-ghost use Rattle.cs_match.specs.Passes.{PassesFindEnds};
-ghost use Rattle.cs_match.specs.Decidability.{MatchingIsDecidable};
-ghost use Rattle.cs_match.specs.Lines.{newline, lines, terminated_lines};
-ghost use Rattle.cs_match.specs.NoNewline.{HasNoNewline};
+ghost use Rattle.cs_match.specs.Cited.{Tree, expansion, FitsWeight, FirstSpansAreUnique, FirstSpansBeginAll, SpansAreUnique, IsExpanded, PassesFindEnds, MatchingIsDecidable, newline, lines, terminated_lines, HasNoNewline};
 
 /// Whether a line has a match is decidable for each tree.
 pub fn matching_is_decidable()

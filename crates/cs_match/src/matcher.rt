@@ -1,20 +1,12 @@
 // Matchers: a lazy DFA (RE2) with the prefilters of its program, and the counters that choose
 // between them.
 ghost use Rattle.std.specs.Prelude.{◌≡◌, ◌≤◌, ◌<◌, ◌+◌, ◌-◌, ◌↔◌, ℕ, Bool, List, IsTrue, IfOk, IfSome, MatchOption, length, slice_range, drop, count_by};
-ghost use Rattle.cs_syntax.specs.Matching.{HasMatch};
-ghost use Rattle.cs_match.specs.Automaton.{after_steps, most_states};
-ghost use Rattle.cs_match.specs.Deciding.{Decides};
-ghost use Rattle.cs_match.specs.Lines.{terminated_lines};
-ghost use Rattle.cs_match.specs.MatchingEnds.{matching_ends};
-ghost use Rattle.cs_match.specs.Skipped.{AreLinesBetween};
-ghost use Rattle.cs_match.specs.Work.{WorksWithin, line_work, list_work, search_work, searched_bytes};
-ghost use Rattle.cs_match.specs.Skipping.{AreWholeLines, IsLineAfter, NoneMatch};
+ghost use Rattle.cs_match.specs.Cited.{HasMatch, after_steps, most_states, Decides, terminated_lines, matching_ends, AreLinesBetween, WorksWithin, line_work, list_work, search_work, searched_bytes, AreWholeLines, IsLineAfter, NoneMatch};
 
 mod cache;
 
 use crate::dfa::LazyDfa;
-use crate::listing;
-use crate::listing::line_to;
+use crate::listing::{Lister, line_to};
 use crate::pacing::Pacing;
 use crate::program::Program;
 pub use cache::Cache;
@@ -36,12 +28,10 @@ pub struct Line {
 /// list of matching lines that was made last, and the steps taken.
 #[derive(Drop)]
 pub struct Matcher<'a> {
-    pub(crate) dfa: LazyDfa<'a>,
-    pacing: Pacing,
+    pub(crate) lister: Lister<'a>,
     /// The list of matching lines: the first `listed` of these.
     ends: Vec<usize>,
     listed: usize,
-    steps: Steps,
 }
 
 impl<'a> Model for Matcher<'a> {
@@ -52,10 +42,9 @@ impl<'a> Model for Matcher<'a> {
     ghost coded = { automaton_code };
 
     ghost use Rattle.std.specs.Prelude.{◌<◌, ◌≤◌, length, take};
-    ghost use Rattle.cs_match.specs.ConsistentDfa.{automaton_of};
+    ghost use Rattle.cs_match.specs.Listing.{automaton_of};
 
-    ghost view = { λ matcher. automaton_of matcher.dfa (take matcher.listed matcher.ends.items)
-        matcher.steps };
+    ghost view = { λ matcher. automaton_of matcher.lister (take matcher.listed matcher.ends.items) };
 
     ghost invariant = { λ matcher. (0 < length matcher.ends.items)
         × (matcher.listed ≤ length matcher.ends.items) };
@@ -69,13 +58,15 @@ impl<'a> Matcher<'a> {
         ensures steps { IfOk result (λ matcher. matcher.steps ≡ 0) }
     {
         let dfa = LazyDfa::new(alloc, program)?;
-        let ends = vec![in alloc; 0usize; LIST]?;
-        Ok(Matcher {
+        let lister = Lister {
             dfa,
             pacing: Pacing::default(),
-            ends,
-            listed: 0,
             steps: Steps::new(),
+        };
+        Ok(Matcher {
+            lister,
+            ends: vec![in alloc; 0usize; LIST]?,
+            listed: 0,
         })
     }
 
@@ -85,7 +76,7 @@ impl<'a> Matcher<'a> {
         ensures some { 1 ≤ result }
         ensures bound { result ≤ most_states }
     {
-        let dfa = &self.dfa;
+        let dfa = &self.lister.dfa;
         dfa.states.cached.len() - 4
     }
 
@@ -94,22 +85,20 @@ impl<'a> Matcher<'a> {
     pub fn add_steps(&mut self, count: usize)
         ensures { self.new ≡ after_steps count self.old }
     {
-        self.steps.add(count);
+        self.lister.steps.add(count);
     }
 
-    /// Whether the line has a match, whatever was asked before. It allocates nothing. It takes at
-    /// most `line_work` steps.
+    /// Whether the line has a match, whatever was asked before. It allocates nothing.
     pub fn is_match(&mut self, line: &[u8]) -> bool
         ensures found { IsTrue result ↔ HasMatch self.old.tree line.now }
         ensures same { self.new.tree ≡ self.old.tree }
         ensures work { WorksWithin (line_work self.old.tree (length line.now)) self.old self.new }
     {
-        self.dfa.is_match(line, &mut self.steps)
+        let lister = &mut self.lister;
+        lister.dfa.is_match(line, &mut lister.steps)
     }
 
     /// The first line at or after `from` that has a match. The block is whole lines from there on.
-    /// The steps are at most `search_work` of the bytes up to the end of the line, or of the block
-    /// if no line matches.
     pub fn next_match(&mut self, block: &[u8], from: usize) -> Option<Line>
         requires within { from ≤ length block.now }
         requires whole { AreWholeLines (drop from block.now) }
@@ -124,25 +113,17 @@ impl<'a> Matcher<'a> {
             self.old self.new }
     {
         let mut ends = [0];
-        let listed = listing::list_lines(
-            &mut self.dfa,
-            &mut self.pacing,
-            block,
-            from,
-            &mut ends,
-            &mut self.steps,
-        );
+        let listed = self.lister.list_lines(block, from, &mut ends);
         if listed.count == 0 {
             return None;
         }
         let line = line_to(block, from, ends[0]);
-        self.steps.add(line.end + 1 - from);
+        self.lister.steps.add(line.end + 1 - from);
         Some(line)
     }
 
     /// Lists the matching lines from an offset on, all up to the offset that it returns: the end of
-    /// the block, unless the list has no room for more. The block is whole lines from there on. The
-    /// steps are at most `list_work` of the bytes.
+    /// the block, unless the list has no room for more. The block is whole lines from there on.
     pub fn list_lines(&mut self, block: &[u8], from: usize) -> usize
         requires within { from < length block.now }
         requires whole { AreWholeLines (drop from block.now) }
@@ -153,14 +134,7 @@ impl<'a> Matcher<'a> {
         ensures same { self.new.tree ≡ self.old.tree }
         ensures work { WorksWithin (list_work self.old.tree (result - from)) self.old self.new }
     {
-        let lines = listing::list_lines(
-            &mut self.dfa,
-            &mut self.pacing,
-            block,
-            from,
-            &mut self.ends,
-            &mut self.steps,
-        );
+        let lines = self.lister.list_lines(block, from, &mut self.ends);
         self.listed = lines.count;
         lines.to
     }
@@ -173,8 +147,7 @@ impl<'a> Matcher<'a> {
         &self.ends[..self.listed]
     }
 
-    /// The number of matching lines in a block of whole lines. The steps are at most `list_work` of
-    /// its bytes.
+    /// The number of matching lines in a block of whole lines.
     pub fn count(&mut self, block: &[u8]) -> u64
         requires whole { AreWholeLines block.now }
         ensures found { (has_match : List ℕ → Bool) → Decides has_match self.old.tree →

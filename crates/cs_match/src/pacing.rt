@@ -1,6 +1,6 @@
 // Whether the prefilter is worth its cost, and one lane faster than four. No contract cites it.
 
-use crate::dfa::ListedLines;
+use crate::dfa::EndList;
 use crate::listing::Candidate;
 
 /// Below this distance between candidates without a match the DFA alone is faster than a prefilter.
@@ -64,7 +64,7 @@ impl Pacing {
     }
 
     /// Notes how far a candidate was, what others before it cost, and whether its line is listed.
-    pub(crate) fn note_candidate(&mut self, from: usize, found: Candidate, listed: ListedLines) {
+    pub(crate) fn note_candidate(&mut self, from: usize, found: Candidate, listed: EndList) {
         let passed = listed.to.saturating_sub(from);
         let (skipped, tested) = match found.line {
             Some(line) if listed.count > 0 => (line.start.saturating_sub(from), 0),

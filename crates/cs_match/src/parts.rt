@@ -1,15 +1,8 @@
 // The parts of a program: its tree without the sets. A run of positions is one part, and so is an
 // alternation of runs, such as `if|for|while`: it is entered and left by masks of its first and
 // last positions, as in Shift-And (Baeza-Yates, Gonnet).
-ghost use Rattle.std.specs.Prelude.{◌≡◌, ◌+◌, ◌<◌, ◌≤◌, ◌^◌, IfOk, IfSome, ◌++◌, OnOk, false, replicate};
-ghost use Rattle.cs_syntax.specs.Matching.{Trees, cat, alt, more};
-ghost use Rattle.cs_syntax.specs.TreeList.{append};
-ghost use Rattle.cs_syntax.specs.Node.{tree_of};
-ghost use Rattle.cs_syntax.specs.NodeList.{trees_of};
-ghost use Rattle.cs_match.specs.Glushkov.{position_count, position_count_of};
-ghost use Rattle.cs_match.specs.Parts.{runs, shape_of, shapes_of, size_of, sizes_of, HaveSameShape};
-ghost use Rattle.cs_match.specs.Size.{nodes, nodes_of};
-ghost use Rattle.cs_match.specs.Sequences.{firsts_of, lasts_of};
+ghost use Rattle.std.specs.Prelude.{◌≡◌, ◌+◌, ◌<◌, ◌≤◌, ◌^◌, IfOk, IfSome, false};
+ghost use Rattle.cs_match.specs.Cited.{Trees, cat, alt, more, append, tree_of, trees_of, position_count, position_count_of, runs, shape_of, shapes_of, size_of, sizes_of, HaveSameShape, nodes, nodes_of, firsts_of, lasts_of};
 
 use crate::position_set::PositionSet;
 use cs_syntax::Node;
@@ -25,9 +18,7 @@ pub(crate) enum Fragment {
     Alternation(Sequences),
     /// Such sequences or nothing, one after another: the positions of one, and their number.
     Options(usize, usize),
-    /// A concatenation.
     Cat(Vec<Fragment>),
-    /// An alternation.
     Alt(Vec<Fragment>),
     /// A loop of at least so many iterations.
     Rep(Box<Fragment>, u32),
@@ -68,8 +59,10 @@ impl Sequences {
         let mut lasts = Vec::new(alloc);
         for n in following.iter() {
             firsts.push(true)?;
-            add_others(&mut firsts, *n)?;
-            add_others(&mut lasts, *n)?;
+            for k in 0..*n {
+                firsts.push(false)?;
+                lasts.push(false)?;
+            }
             lasts.push(true)?;
         }
         Ok(Sequences {
@@ -79,14 +72,12 @@ impl Sequences {
         })
     }
 
-    /// The first position of each sequence.
     pub(crate) fn firsts(&self) -> &PositionSet
         ensures { result.now ≡ firsts_of self.now }
     {
         &self.firsts
     }
 
-    /// The last position of each sequence.
     pub(crate) fn lasts(&self) -> &PositionSet
         ensures { result.now ≡ lasts_of self.now }
     {
@@ -208,14 +199,4 @@ fn runs_of(alloc: Global, parts: &[Fragment]) -> Result<Option<Vec<usize>>, Allo
         }
     }
     Ok(Some(following))
-}
-
-/// Adds so many positions that are not in the set.
-fn add_others(flags: &mut Vec<bool>, n: usize) -> Result<(), AllocError>
-    ensures { OnOk result (flags.new.items ≡ flags.old.items ++ replicate n false) }
-{
-    for k in 0..n {
-        flags.push(false)?;
-    }
-    Ok(())
 }

@@ -1,13 +1,9 @@
 // The positions of a tree, and what each does over a byte: one bit each in the masks, which are
 // computed when an input is seen first. All bytes of a class do the same, so each class has one
 // mask, that of its first byte.
-ghost use Rattle.std.specs.Prelude.{◌≡◌, ◌++◌, OnOk, ◌+◌, ◌<◌, IfOk, length, true, false, slice_index_or};
-ghost use Rattle.cs_syntax.specs.Node.{tree_of};
-ghost use Rattle.cs_match.specs.Entered.{position_list, if_entered, if_previous, if_kept};
-ghost use Rattle.cs_match.specs.Masks.{IsMask, HasRoom, AreMasks};
-ghost use Rattle.cs_prefilter.specs.CountsAtMost.{CountsAtMost};
+ghost use Rattle.std.specs.Prelude.{◌≡◌, ◌++◌, OnOk, ◌+◌, ◌<◌, IfOk, None, Some, length, slice_index_or};
+ghost use Rattle.cs_match.specs.Cited.{tree_of, position_count, position_list, if_entered, if_previous, if_kept, IsMask, HasRoom, AreMasks, CountsAtMost};
 
-use crate::byte_classes::ByteClasses;
 use crate::position_set::PositionSet;
 use crate::program::Program;
 use cs_prefilter::Steps;
@@ -15,7 +11,7 @@ use cs_syntax::{ByteSet, CharSet, CharStep, Node};
 use std::alloc::{AllocError, Global};
 
 /// A byte of a line, and what it does to the unfinished character.
-#[derive(Clone, Copy, Drop)]
+#[derive(Clone, Copy, PartialEq, Drop)]
 pub(crate) struct Input {
     pub(crate) byte: u8,
     pub(crate) char: CharStep,
@@ -33,40 +29,22 @@ pub(crate) enum Position {
 }
 
 impl Position {
-    /// Whether an entered position is in the set after the input.
-    pub(crate) fn if_entered(&self, input: Input) -> bool
-        ensures { result ≡ if_entered input self.now }
+    /// Whether the position is in the set after the input if it was entered, if the one before it
+    /// was entered, and if it was in the set.
+    fn over(&self, input: Input) -> (bool, bool, bool)
+        ensures entered { result.0 ≡ if_entered input self.now }
+        ensures previous { result.1 ≡ if_previous input self.now }
+        ensures kept { result.2 ≡ if_kept input self.now }
     {
-        match self {
-            Position::Bytes(set) => set.contains(input.byte),
-            Position::Begun => matches!(input.char, CharStep::Begins(_)),
-            Position::Taken(set) => match input.char {
-                CharStep::Completes(low) => set.contains(low),
-                _ => false,
-            },
-        }
-    }
-
-    /// Whether a position is in the set after the input if the one before it was entered.
-    pub(crate) fn if_previous(&self, input: Input) -> bool
-        ensures { result ≡ if_previous input self.now }
-    {
-        match self {
-            Position::Taken(set) => match input.char {
-                CharStep::Single(byte) => set.contains(u32::from(byte)),
-                _ => false,
-            },
-            _ => false,
-        }
-    }
-
-    /// Whether a position of the set stays in it over the input.
-    pub(crate) fn if_kept(&self, input: Input) -> bool
-        ensures { result ≡ if_kept input self.now }
-    {
-        match self {
-            Position::Begun => matches!(input.char, CharStep::Inside(_)),
-            _ => false,
+        match (self, input.char) {
+            (Position::Bytes(set), _) => (set.contains(input.byte), false, false),
+            (Position::Begun, CharStep::Begins(_)) => (true, false, false),
+            (Position::Begun, CharStep::Inside(_)) => (false, false, true),
+            (Position::Taken(set), CharStep::Single(byte)) => {
+                (false, set.contains(u32::from(byte)), false)
+            }
+            (Position::Taken(set), CharStep::Completes(low)) => (set.contains(low), false, false),
+            _ => (false, false, false),
         }
     }
 }
@@ -77,9 +55,8 @@ const LAST_BYTES: usize = 64;
 /// What each position does over an input.
 #[derive(Drop)]
 pub(crate) struct Mask {
-    pub(crate) input: Input,
-    /// The mask of the input is computed.
-    pub(crate) is_known: bool,
+    /// None if it is not computed.
+    pub(crate) input: Option<Input>,
     /// The positions that are in the set after the input if they were entered.
     pub(crate) entered: PositionSet,
     /// The positions that are in it if the one before was entered.
@@ -92,44 +69,31 @@ impl Mask {
     /// A mask for this many positions, of no input.
     fn none(alloc: Global, position_count: usize) -> Result<Mask, AllocError>
         ensures room { IfOk result (HasRoom position_count) }
-        ensures none { IfOk result (λ mask. mask.is_known ≡ false) }
+        ensures none { IfOk result (λ mask. mask.input ≡ None) }
     {
-        let input = Input {
-            byte: 0,
-            char: CharStep::Nothing,
-        };
         Ok(Mask {
-            input,
-            is_known: false,
+            input: None,
             entered: PositionSet::none(alloc, position_count)?,
             previous: PositionSet::none(alloc, position_count)?,
             kept: PositionSet::none(alloc, position_count)?,
         })
     }
 
-    /// Whether this is the mask of the input.
-    fn is_of(&self, input: Input) -> bool
-        ensures known { result ≡ true → self.now.is_known ≡ true }
-        ensures same { result ≡ true → self.now.input ≡ input }
-    {
-        self.is_known && self.input.byte == input.byte && self.input.char == input.char
-    }
-
     /// Computes the mask of the input.
     fn fill(&mut self, positions: &[Position], input: Input, steps: &mut Steps)
         requires { HasRoom (length positions.now) self.old }
         ensures room { HasRoom (length positions.now) self.new }
-        ensures mask { IsMask positions.now self.new }
-        ensures input { self.new.input ≡ input }
+        ensures mask { IsMask positions.now input self.new }
+        ensures input { self.new.input ≡ Some input }
         ensures cost { steps.new.count ≡ steps.old.count + length positions.now }
     {
-        self.input = input;
-        self.is_known = true;
+        self.input = Some(input);
         for (index, position) in positions.iter().enumerate() {
             steps.add(1);
-            self.entered.put(index, position.if_entered(input));
-            self.previous.put(index, position.if_previous(input));
-            self.kept.put(index, position.if_kept(input));
+            let (entered, previous, kept) = position.over(input);
+            self.entered.put(index, entered);
+            self.previous.put(index, previous);
+            self.kept.put(index, kept);
         }
     }
 }
@@ -160,24 +124,23 @@ impl Masks {
     }
 
     /// The index of the mask of an input, computed first if it is not there.
-    pub(crate) fn find(
-        &mut self,
-        positions: &[Position],
-        classes: &ByteClasses,
-        input: Input,
-        steps: &mut Steps,
-    ) -> usize
-        requires { AreMasks positions.now self.old }
-        ensures masks { AreMasks positions.now self.new }
+    pub(crate) fn find(&mut self, program: &Program, input: Input, steps: &mut Steps) -> usize
+        requires { AreMasks (position_list program.now) self.old }
+        ensures masks { AreMasks (position_list program.now) self.new }
         ensures within { result < length self.new.slots.items }
         ensures mask { (other : Mask) →
-            IsMask positions.now (slice_index_or self.new.slots.items result other) }
-        ensures input { (other : Mask) → (slice_index_or self.new.slots.items result other).input ≡ input }
-        ensures cost { CountsAtMost (length positions.now) steps.old steps.new }
+            IsMask (position_list program.now) input (slice_index_or self.new.slots.items result other) }
+        ensures cost { CountsAtMost (position_count program.now) steps.old steps.new }
     {
-        let slot = slot_of(classes, input, self.slots.len());
-        if !self.slots[slot].is_of(input) {
-            self.slots[slot].fill(positions, input, steps);
+        let classes = program.byte_classes();
+        let byte = input.byte as usize;
+        let own = match input.char {
+            CharStep::Completes(low) => classes.count as usize + (low as usize ^ byte) % LAST_BYTES,
+            _ => classes.of[byte] as usize,
+        };
+        let slot = own.min(self.slots.len() - 1);
+        if self.slots[slot].input != Some(input) {
+            self.slots[slot].fill(program.positions(), input, steps);
         }
         slot
     }
@@ -207,17 +170,4 @@ pub(crate) fn add_positions(
         _ => {}
     }
     Ok(())
-}
-
-/// Where the mask of an input is kept among so many.
-fn slot_of(classes: &ByteClasses, input: Input, count: usize) -> usize
-    requires { 0 < count }
-    ensures { result < count }
-{
-    let byte = input.byte as usize;
-    let slot = match input.char {
-        CharStep::Completes(low) => classes.count as usize + (low as usize ^ byte) % LAST_BYTES,
-        _ => classes.of[byte] as usize,
-    };
-    if slot < count { slot } else { 0 }
 }

@@ -1,9 +1,9 @@
 // Sets of Glushkov positions as bit vectors.
 ghost use Rattle.std.specs.Prelude.{◌≡◌, ℕ, ◌+◌, ◌*◌, ◌<◌, ◌≤◌, ◌∷◌, ◌++◌, ◌==◌, ◌&&◌, nat_le, true, false, IfOk, length, take, drop, replicate, slice_index_or, if◌then◌else◌};
 ghost use Rattle.std.specs.Int.{bit_at};
-ghost use Rattle.cs_match.specs.PositionSet.{positions_of, IsPositionSet, has_from, has_bit_from, intersect, is_moved, is_selected};
-ghost use Rattle.cs_match.specs.Work.{words};
+ghost use Rattle.cs_match.specs.Cited.{positions_of, IsPositionSet, has_from, has_bit_from, intersect, HasRoom, is_moved, is_selected, words};
 
+use crate::position::Mask;
 use cs_prefilter::Steps;
 use std::alloc::{AllocError, Global};
 use std::marker::Model;
@@ -56,7 +56,6 @@ impl PositionSet {
         self.count
     }
 
-    /// Whether the position is in the set.
     pub(crate) fn get(&self, index: usize) -> bool
         requires { index < length self.now }
         ensures { result ≡ slice_index_or self.now index false }
@@ -72,14 +71,12 @@ impl PositionSet {
         self.words[index / 64] = with_bits(self.words[index / 64], 1 << (index % 64), on);
     }
 
-    /// Removes all positions.
     pub(crate) fn clear(&mut self)
         ensures { self.new ≡ replicate (length self.old) false }
     {
         self.words.fill(0);
     }
 
-    /// The words of the set.
     pub(crate) fn words(&self) -> &[u64]
         ensures set { IsPositionSet result.now (length self.now) }
         ensures same { positions_of result.now (length self.now) ≡ self.now }
@@ -170,33 +167,24 @@ impl PositionSet {
         }
     }
 
-    /// Moves the set over an input: a position is in it afterwards by one of three masks, if it was
-    /// entered, if the one before it was entered, or if it was in the set.
-    pub(crate) fn move_over(
-        &mut self,
-        entries: &PositionSet,
-        if_entered: &PositionSet,
-        if_previous: &PositionSet,
-        if_kept: &PositionSet,
-        steps: &mut Steps,
-    )
+    /// Moves the set over the input of a mask: a position is in it afterwards if it was entered, if
+    /// the one before it was entered, or if it was in the set, as the mask says.
+    pub(crate) fn move_over(&mut self, entries: &PositionSet, mask: &Mask, steps: &mut Steps)
         requires entries { length entries.now ≡ length self.old + 1 }
-        requires if_entered { length if_entered.now ≡ length self.old }
-        requires if_previous { length if_previous.now ≡ length self.old }
-        requires if_kept { length if_kept.now ≡ length self.old }
+        requires mask { HasRoom (length self.old) mask.now }
         ensures length { length self.new ≡ length self.old }
         ensures each { (k : ℕ) → k < length self.old → slice_index_or self.new k false
-            ≡ is_moved entries.now if_entered.now if_previous.now if_kept.now self.old k }
+            ≡ is_moved entries.now mask.now.entered mask.now.previous mask.now.kept self.old k }
         ensures cost { steps.new.count ≡ steps.old.count + words (length self.old) }
     {
+        let (entered, previous, kept) = (&mask.entered, &mask.previous, &mask.kept);
         let mut carried = 0;
         for index in 0..self.words.len() {
             steps.add(1);
             let entry = entries.words[index];
-            let previous = entry << 1 | carried;
-            self.words[index] = entry & if_entered.words[index]
-                | previous & if_previous.words[index]
-                | self.words[index] & if_kept.words[index];
+            self.words[index] = entry & entered.words[index]
+                | (entry << 1 | carried) & previous.words[index]
+                | self.words[index] & kept.words[index];
             carried = entry >> 63;
         }
     }

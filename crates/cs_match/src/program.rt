@@ -1,17 +1,6 @@
 // Programs: compiled patterns.
 ghost use Rattle.std.specs.Prelude.{◌≡◌, ◌≤◌, ◌<◌, IfOk, IfSome, IsTrue, length, true};
-ghost use Rattle.cs_syntax.specs.Node.{tree_of};
-ghost use Rattle.cs_syntax.specs.Cuts.{AreCutsOf};
-ghost use Rattle.cs_match.specs.SameLines.{MatchSameLines, MatchSameSpans};
-ghost use Rattle.cs_match.specs.Glushkov.{position_count, repeats, char_step_of, IsExpanded};
-ghost use Rattle.cs_prefilter.specs.WordAt.{IsPrefilterOf};
-ghost use Rattle.cs_match.specs.LookBehind.{look_behind};
-ghost use Rattle.cs_match.specs.Anchored.{is_anchored};
-ghost use Rattle.cs_match.specs.OneWord.{is_one_word};
-ghost use Rattle.cs_match.specs.ByteClasses.{AreClasses};
-ghost use Rattle.cs_match.specs.Parts.{HaveSameShape, shape_of, size_of};
-ghost use Rattle.cs_match.specs.Entered.{position_list};
-ghost use Rattle.cs_match.specs.Size.{nodes, FitsWeight};
+ghost use Rattle.cs_match.specs.Cited.{tree_of, AreCutsOf, MatchSameLines, MatchSameSpans, position_count, repeats, char_step_of, IsExpanded, IsPrefilterOf, look_behind, is_anchored, is_one_word, AreClasses, HaveSameShape, shape_of, size_of, position_list, nodes, FitsWeight};
 
 use crate::byte_classes::ByteClasses;
 use crate::expand::expand;
@@ -37,9 +26,7 @@ pub struct Program {
     root: Node,
     /// The tree without its sets.
     part: Fragment,
-    /// The positions of the tree.
     positions: Vec<Position>,
-    /// The number of repeats.
     repeats: usize,
     /// The look-behind bits that the tree reads.
     look_behind: LookBehind,
@@ -47,9 +34,7 @@ pub struct Program {
     is_anchored: bool,
     /// The tree is one word, and a short one.
     is_short_word: bool,
-    /// The byte classes of the tree.
     byte_classes: ByteClasses,
-    /// The cuts of the sets of characters.
     cuts: Cuts,
     /// The prefilter, if the tree has rare words.
     prefilter: Option<Prefilter>,
@@ -122,7 +107,6 @@ impl Program {
         })
     }
 
-    /// The tree without its sets.
     pub(crate) fn part(&self) -> &Fragment
         ensures shape { HaveSameShape self.now (shape_of result.now) }
         ensures size { size_of result.now ≤ nodes self.now }
@@ -130,7 +114,6 @@ impl Program {
         &self.part
     }
 
-    /// The positions of the tree.
     pub(crate) fn positions(&self) -> &[Position]
         ensures list { result.now ≡ position_list self.now }
         ensures count { length result.now ≡ position_count self.now }
@@ -146,28 +129,24 @@ impl Program {
         self.repeats
     }
 
-    /// The look-behind bits that the tree reads.
     pub(crate) fn look_behind(&self) -> LookBehind
         ensures { result ≡ look_behind self.now }
     {
         self.look_behind
     }
 
-    /// Whether each match begins at the start of the line.
     pub(crate) fn is_anchored(&self) -> bool
         ensures { result ≡ is_anchored self.now }
     {
         self.is_anchored
     }
 
-    /// Whether the tree is one word, and a short one.
     pub(crate) fn is_short_word(&self) -> bool
         ensures { IsTrue result → is_one_word self.now ≡ true }
     {
         self.is_short_word
     }
 
-    /// The byte classes of the tree.
     pub(crate) fn byte_classes(&self) -> &ByteClasses
         ensures { AreClasses self.now result.now }
     {
@@ -185,7 +164,6 @@ impl Program {
         }
     }
 
-    /// The prefilter, if the tree has rare words.
     pub(crate) fn prefilter(&self) -> Option<&Prefilter>
         ensures { IfSome result (λ prefilter. IsPrefilterOf self.now prefilter.now) }
     {

@@ -2,10 +2,7 @@
 // of the automaton find it (`pass`), or, if the program is one word, the bytes are compared with it
 // (`word`).
 ghost use Rattle.std.specs.Prelude.{◌≡◌, ◌≤◌, ◌+◌, IfOk, MatchOption, length, true, false};
-ghost use Rattle.cs_match.specs.Passes.{IsPassOf};
-ghost use Rattle.cs_match.specs.Span.{IsFirstOf, HasNoMatchOf, IsFirstSpan, HasNoMatchFrom};
-ghost use Rattle.cs_match.specs.SpanList.{IsListing, IsUsedUp};
-ghost use Rattle.cs_match.specs.SpanWork.{SearchesWithin, ListsWithin};
+ghost use Rattle.cs_match.specs.Cited.{IsPassOf, IsFirstOf, HasNoMatchOf, IsFirstSpan, HasNoMatchFrom, IsListing, IsUsedUp, SearchesWithin, ListsWithin};
 
 mod pass;
 mod word;

@@ -1,16 +1,6 @@
 // States of the DFA, and look-around at an offset of a line.
 ghost use Rattle.std.specs.Prelude.{◌≡◌, ◌+◌, ◌*◌, ◌↔◌, IfOk, IsTrue, length, replicate, true, false, ◌&&◌};
-ghost use Rattle.cs_syntax.specs.Matching.{HasMatch, is_word};
-ghost use Rattle.cs_match.specs.Glushkov.{position_count, accepts, cuts_of, IsExpanded};
-ghost use Rattle.cs_match.specs.Digits.{IsBlock};
-ghost use Rattle.cs_match.specs.Masks.{IsScratch};
-ghost use Rattle.cs_match.specs.Size.{nodes};
-ghost use Rattle.cs_match.specs.Work.{words, step_work};
-ghost use Rattle.cs_match.specs.States.{start, ahead, look_at_end, next_state, successor, accepts_before};
-ghost use Rattle.cs_prefilter.specs.CountsAtMost.{CountsAtMost};
-ghost use Rattle.cs_syntax.specs.Node.{tree_of};
-ghost use Rattle.cs_match.specs.LookBehind.{look_behind, either};
-ghost use Rattle.cs_match.specs.Anchored.{is_anchored};
+ghost use Rattle.cs_match.specs.Cited.{HasMatch, is_word, position_count, accepts, cuts_of, IsExpanded, IsBlock, IsScratch, nodes, words, step_work, start, ahead, look_at_end, next_state, successor, accepts_before, CountsAtMost, tree_of, look_behind, is_anchored};
 
 use crate::glushkov::{Offset, Scratch, enter, step_over};
 use crate::position::Input;
@@ -31,11 +21,8 @@ pub(crate) struct State {
 /// What a state keeps of the bytes before the offset, besides its positions.
 #[derive(Clone, Copy, PartialEq, Drop)]
 pub(crate) struct Behind {
-    /// The offset is the start of the line.
     pub(crate) first: bool,
-    /// The byte before the offset is a word character.
     pub(crate) word: bool,
-    /// The character that is unfinished before the offset.
     pub(crate) unfinished: Unfinished,
 }
 
@@ -82,7 +69,6 @@ impl State {
         self.behind.unfinished == Unfinished::none() && !self.positions.meets(0, &self.positions)
     }
 
-    /// A hash of the state.
     pub(crate) fn hash(&self) -> u64 {
         let behind = self.behind;
         let bits = u64::from(behind.first) << 1 | u64::from(behind.word);
@@ -165,10 +151,7 @@ impl State {
             last: false,
             edge: self.behind.word ^ is_word,
         };
-        let at = Offset {
-            may_begin: true,
-            here,
-        };
+        let at = Offset { begins: true, here };
         let char = program.char_step(self.behind.unfinished, byte);
         let input = Input { byte, char };
         let accepting = step_over(program, at, &mut self.positions, scratch, input, steps);
@@ -195,10 +178,7 @@ impl State {
             last: true,
             edge: self.behind.word,
         };
-        let at = Offset {
-            may_begin: true,
-            here,
-        };
+        let at = Offset { begins: true, here };
         let accepting = enter(program, at, &self.positions, scratch, steps);
         self.begin(program, steps);
         accepting
@@ -228,23 +208,6 @@ pub(crate) struct LookBehind {
 }
 
 impl LookBehind {
-    const NONE: LookBehind = LookBehind {
-        first: false,
-        word: false,
-        char: false,
-    };
-
-    /// The bits that one of two trees reads.
-    fn or(self, other: LookBehind) -> LookBehind
-        ensures { result ≡ either self other }
-    {
-        LookBehind {
-            first: self.first | other.first,
-            word: self.word | other.word,
-            char: self.char | other.char,
-        }
-    }
-
     /// Whether the byte is an ASCII word character, if there is a bit for them.
     pub(crate) fn is_word(self, byte: u8) -> bool
         ensures { result ≡ (is_word byte && self.word) }
@@ -257,11 +220,18 @@ impl LookBehind {
 pub(crate) fn look_behind(node: &Node) -> LookBehind
     ensures { result ≡ look_behind (tree_of node.now) }
 {
-    let mut bits = LookBehind::NONE;
+    let mut bits = LookBehind {
+        first: false,
+        word: false,
+        char: false,
+    };
     match node {
         Node::Cat(parts) | Node::Alt(parts) => {
             for part in parts {
-                bits = bits.or(look_behind(part));
+                let part = look_behind(part);
+                bits.first |= part.first;
+                bits.word |= part.word;
+                bits.char |= part.char;
             }
         }
         Node::Rep(x, _, _) => bits = look_behind(x),

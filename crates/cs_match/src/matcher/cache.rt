@@ -5,6 +5,7 @@ ghost use Rattle.cs_match.specs.Cached.{IsCacheOf};
 
 use super::Matcher;
 use crate::dfa::{LazyDfa, StateCache};
+use crate::listing::Lister;
 use crate::pacing::Pacing;
 use crate::program::Program;
 use cs_prefilter::Steps;
@@ -35,13 +36,19 @@ impl<'a> Matcher<'a> {
         requires cache { IsCacheOf program.now cache }
         ensures tree { result.tree ≡ program.now }
     {
-        let states = cache.states;
-        Matcher {
-            dfa: LazyDfa { program, states },
+        let dfa = LazyDfa {
+            program,
+            states: cache.states,
+        };
+        let lister = Lister {
+            dfa,
             pacing: cache.pacing,
+            steps: cache.steps,
+        };
+        Matcher {
+            lister,
             ends: cache.ends,
             listed: 0,
-            steps: cache.steps,
         }
     }
 
@@ -49,13 +56,8 @@ impl<'a> Matcher<'a> {
     pub fn into_cache(self) -> Cache
         ensures { IsCacheOf self.entry.tree result }
     {
-        let Matcher {
-            dfa,
-            pacing,
-            ends,
-            listed: _,
-            steps,
-        } = self;
+        let Matcher { lister, ends, .. } = self;
+        let Lister { dfa, pacing, steps } = lister;
         let LazyDfa { program: _, states } = dfa;
         Cache {
             states,

@@ -2,14 +2,7 @@
 // before a given offset: so one pass says whether a match begins there. The start is found by
 // passes through ever shorter parts of the line.
 ghost use Rattle.std.specs.Prelude.{◌≡◌, ◌≤◌, ◌<◌, ◌+◌, ◌-◌, ◌*◌, ◌^◌, ℕ, IfSome, MatchOption, length, replicate, Bool, true, false, ◌&&◌, nat_le, nat_lt, slice_index};
-ghost use Rattle.cs_match.specs.Passes.{IsPassAt, IsPassOf, HasRead, ends_in, may_begin, may_end};
-ghost use Rattle.cs_match.specs.Span.{IsMatchOf, IsFirstOf, HasNoMatchOf};
-ghost use Rattle.cs_match.specs.SpanList.{IsListing, IsSpent};
-ghost use Rattle.cs_match.specs.SpanSearch.{BeginFrom, BeginsAt, BeginsBy, EndsAt};
-ghost use Rattle.cs_match.specs.SpanWork.{pass_bytes, find_bytes};
-ghost use Rattle.cs_syntax.specs.CharSteps.{finished, unfinished_after};
-ghost use Rattle.cs_syntax.specs.Matching.{Tree, is_at_word_boundary, is_word, word_before, word_after};
-ghost use Rattle.cs_match.specs.Glushkov.{char_step_of, look_around, unfinished_before};
+ghost use Rattle.cs_match.specs.Cited.{IsPassAt, IsPassOf, HasRead, ends_in, may_begin, may_end, IsMatchOf, IsFirstOf, HasNoMatchOf, IsListing, IsSpent, BeginFrom, BeginsAt, BeginsBy, EndsAt, pass_bytes, find_bytes, finished, unfinished_after, Tree, is_at_word_boundary, is_word, word_before, word_after, char_step_of, look_around, unfinished_before};
 
 use super::{ListedSpans, Span};
 use crate::glushkov::{Offset, Scratch, enter, step_over};
@@ -298,7 +291,7 @@ impl Pass {
         let here = look_around(program, line, offset);
         self.unfinished = char.unfinished();
         let at = Offset {
-            may_begin: may_begin(line, part, offset),
+            begins: may_begin(line, part, offset),
             here,
         };
         let accepts = step_over(
@@ -327,11 +320,11 @@ impl Pass {
         ensures read { HasRead program.now 1 self.old self.new }
     {
         let here = look_around(program, line, line.len());
-        let may_begin = may_begin(line, part, line.len());
+        let begins = may_begin(line, part, line.len());
         self.left = self.left.saturating_sub(1);
         self.read.add(1);
         self.steps.add(1);
-        let at = Offset { may_begin, here };
+        let at = Offset { begins, here };
         let accepts = enter(
             program,
             at,

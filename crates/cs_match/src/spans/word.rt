@@ -1,12 +1,7 @@
 // Programs that are one word: a byte set for each of some neighbouring bytes. Their matches are the
 // places where the word occurs, so that no pass of the automaton is needed.
 ghost use Rattle.std.specs.Prelude.{◌≡◌, ◌≤◌, ◌+◌, ◌↔◌, IsTrue, MatchOption, length, true};
-ghost use Rattle.cs_syntax.specs.Node.{tree_of};
-ghost use Rattle.cs_syntax.specs.NodeList.{trees_of};
-ghost use Rattle.cs_match.specs.OneWord.{is_one_word, are_one_word, has_byte, OccursAt};
-ghost use Rattle.cs_match.specs.Passes.{IsPassOf, HasRead};
-ghost use Rattle.cs_match.specs.Span.{IsFirstOf, HasNoMatchOf, IsWholeWord};
-ghost use Rattle.cs_match.specs.SpanWork.{pass_bytes};
+ghost use Rattle.cs_match.specs.Cited.{tree_of, trees_of, is_one_word, are_one_word, has_byte, OccursAt, IsPassOf, HasRead, IsFirstOf, HasNoMatchOf, IsWholeWord, pass_bytes};
 
 use super::Span;
 use super::pass::{Pass, Wanted, is_word_after, is_word_before};

@@ -75,6 +75,6 @@ returns c =
     record {
       none = λ b k at from to lt same. i.none b k at from to (omega (arith, lt, c.loop-byte-test.false)) same;
       firsts = record { first = λ b lt. i.firsts b (omega (arith, lt, c.loop-byte-test.false)) };
-      range = λ b lt. omega (arith, i.below b (omega (arith, lt, c.loop-byte-test.false)), c.from.ensures);
-      few = omega (arith, c.from.ensures);
+      range = λ b lt. omega (arith, i.below b (omega (arith, lt, c.loop-byte-test.false)), c.from-count.ensures);
+      few = omega (arith, c.from-count.ensures);
     }

@@ -4,9 +4,7 @@ use Rattle.cs_match.specs.declared.parts.Fragment.{Fragment}
 use Rattle.cs_match.specs.Glushkov.{position_count}
 use Rattle.cs_match.specs.Parts.{run, runs, options, shape_of, shapes_of, size_of, sizes_of}
 use Rattle.cs_match.proofs.PartLemmas.{shape_of-Run, shape_of-Alternation, shape_of-Options, shape_of-Cat, shape_of-Alt, size_of-Cat, size_of-Alt, shape_of-LineStart, shape_of-LineEnd, shape_of-WordEdge, shape_of-NotWordEdge, shapes_from, sizes_from}
-use Rattle.cs_match.proofs.ShapeLemmas.{position_count_run, repeats_run}
-use Rattle.cs_match.proofs.AlternationLemmas.{repeats_runs}
-use Rattle.cs_match.proofs.TraversalLemmas.{repeats_options, accepted_all, accepted_each, noted_others, first_noted, entered_ahead, entered_shifted, all_entered, each_entered, no_run_entered}
+use Rattle.cs_match.proofs.TraversalLemmas.{accepted_all, accepted_each, noted_others, first_noted, entered_ahead, entered_shifted, all_entered, each_entered, no_run_entered}
 use Rattle.cs_match.proofs.glushkov.+advance.Goals as goal
 
 pub loop-part-preserved : goal.loop-part-preserved
@@ -20,14 +18,14 @@ loop-part-preserved t c =
     let first = c.args.entries.now in
     let old = c.loop-part.entries in
     let new = c.advance-accepting.new.entries in
-    let moved = c.advance-accepting.ensures.entries in
-    let next = c.advance-accepting.ensures.position in
+    let moved = c.advance-accepting.ensures.enters.1 in
+    let next = c.advance-accepting.ensures.enters.2 in
     let position = rw more at i.position in
     let repeat = rw more at i.repeat in
     let room : c.loop-part.cursor.position + position_count t ≤ length ms = omega arith in
     let noted = noted_others t ts ms c.args.at.now.here c.loop-part.cursor.position _ next c.args.at.now.loops.now
     c.loop-part.cursor.repeat _
-    (rw more at i.noted) c.advance-accepting.ensures.repeat in
+    (rw more at i.noted) c.advance-accepting.ensures.enters.3 in
     record {
       cost = omega (arith, c.advance-accepting.ensures.cost, i.cost, larger);
       position = omega arith;
@@ -35,14 +33,14 @@ loop-part-preserved t c =
       noted = noted;
       next = first_noted ts (drop c.advance-accepting.new.cursor.repeat c.args.at.now.loops.now)
           (drop c.advance-accepting.new.cursor.position ms) c.args.at.now.here noted;
-      accepting = rw c.advance-accepting.ensures.accepting
+      accepting = rw c.advance-accepting.ensures.enters.0
           (accepted_all t ts c.args.at.now.positions.now c.args.at.now.here c.loop-part.cursor.position _ next
           c.loop-part.accepting _ (rw more at i.accepting));
       shifted = entered_shifted t ts ms first old new c.args.at.now.here c.loop-part.cursor.position _
           c.loop-part.accepting next room i.shifted i.ahead moved;
       ahead = entered_ahead t ts ms first old new c.args.at.now.here c.loop-part.cursor.position _ c.loop-part.accepting
           next room i.shifted i.ahead moved;
-      entries = rw c.advance-accepting.ensures.accepting
+      entries = rw c.advance-accepting.ensures.enters.0
           (all_entered t ts ms first old new c.args.at.now.here c.loop-part.cursor.position _ c.loop-part.accepting next
           room i.shifted i.ahead moved _ (rw more at i.entries));
     }
@@ -63,7 +61,7 @@ loop-part-init t c =
       next = first_noted (shapes_of parts) (drop c.args.cursor.now.repeat c.args.at.now.loops.now)
           (drop c.args.cursor.now.position c.args.at.now.positions.now) c.args.at.now.here noted;
       accepting = rw e refl;
-      shifted = c.requires.shifted;
+      shifted = c.requires.room.1;
       ahead = refl;
       entries = rw e refl;
     }
@@ -79,14 +77,14 @@ loop-part-2-preserved t c =
     let first = c.args.entries.now in
     let old = c.loop-part-2.entries in
     let new = c.advance.new.entries in
-    let moved = c.advance.ensures.entries in
-    let next = c.advance.ensures.position in
+    let moved = c.advance.ensures.enters.1 in
+    let next = c.advance.ensures.enters.2 in
     let position = rw more at i.position in
     let repeat = rw more at i.repeat in
     let room : c.loop-part-2.cursor.position + position_count t ≤ length ms = omega arith in
     let noted = noted_others t ts ms c.args.at.now.here c.loop-part-2.cursor.position _ next c.args.at.now.loops.now
     c.loop-part-2.cursor.repeat _
-    (rw more at i.noted) c.advance.ensures.repeat in
+    (rw more at i.noted) c.advance.ensures.enters.3 in
     record {
       cost = omega (arith, c.advance.ensures.cost, i.cost, larger);
       position = omega arith;
@@ -94,7 +92,7 @@ loop-part-2-preserved t c =
       noted = noted;
       next = first_noted ts (drop c.advance.new.cursor.repeat c.args.at.now.loops.now)
           (drop c.advance.new.cursor.position ms) c.args.at.now.here noted;
-      accepting = rw c.advance.ensures.accepting
+      accepting = rw c.advance.ensures.enters.0
           (accepted_each t ts c.args.at.now.positions.now c.args.at.now.here c.loop-part-2.cursor.position _ next
           c.args.enter c.loop-part-2.accepting _ (rw more at i.accepting));
       shifted = entered_shifted t ts ms first old new c.args.at.now.here c.loop-part-2.cursor.position _ c.args.enter next
@@ -121,80 +119,52 @@ loop-part-2-init t c =
       next = first_noted (shapes_of parts) (drop c.args.cursor.now.repeat c.args.at.now.loops.now)
           (drop c.args.cursor.now.position c.args.at.now.positions.now) c.args.at.now.here noted;
       accepting = rw e refl;
-      shifted = c.requires.shifted;
+      shifted = c.requires.room.1;
       ahead = refl;
       entries = rw e refl;
     }
 
-pub returns-in-LineStart-clause-entries : goal.returns-in-LineStart-clause-entries
-returns-in-LineStart-clause-entries t c = rw (ap shape_of c.in-LineStart.is ∙ shape_of-LineStart)
-    (no_run_entered c.args.cursor.now.position c.args.entries.now)
+pub returns-in-LineStart-clause-enters : goal.returns-in-LineStart-clause-enters
+returns-in-LineStart-clause-enters t c = rw (ap shape_of c.in-LineStart.is ∙ shape_of-LineStart)
+    (refl, no_run_entered c.args.cursor.now.position c.args.entries.now, omega arith, omega arith)
 
-pub returns-in-LineEnd-clause-entries : goal.returns-in-LineEnd-clause-entries
-returns-in-LineEnd-clause-entries t c = rw (ap shape_of c.in-LineEnd.is ∙ shape_of-LineEnd)
-    (no_run_entered c.args.cursor.now.position c.args.entries.now)
+pub returns-in-LineEnd-clause-enters : goal.returns-in-LineEnd-clause-enters
+returns-in-LineEnd-clause-enters t c = rw (ap shape_of c.in-LineEnd.is ∙ shape_of-LineEnd)
+    (refl, no_run_entered c.args.cursor.now.position c.args.entries.now, omega arith, omega arith)
 
-pub returns-in-WordEdge-clause-entries : goal.returns-in-WordEdge-clause-entries
-returns-in-WordEdge-clause-entries t c = rw (ap shape_of c.in-WordEdge.is ∙ shape_of-WordEdge)
-    (no_run_entered c.args.cursor.now.position c.args.entries.now)
+pub returns-in-WordEdge-clause-enters : goal.returns-in-WordEdge-clause-enters
+returns-in-WordEdge-clause-enters t c = rw (ap shape_of c.in-WordEdge.is ∙ shape_of-WordEdge)
+    (refl, no_run_entered c.args.cursor.now.position c.args.entries.now, omega arith, omega arith)
 
-pub returns-in-NotWordEdge-clause-entries : goal.returns-in-NotWordEdge-clause-entries
-returns-in-NotWordEdge-clause-entries t c = rw (ap shape_of c.in-NotWordEdge.is ∙ shape_of-NotWordEdge)
-    (no_run_entered c.args.cursor.now.position c.args.entries.now)
+pub returns-in-NotWordEdge-clause-enters : goal.returns-in-NotWordEdge-clause-enters
+returns-in-NotWordEdge-clause-enters t c = rw (ap shape_of c.in-NotWordEdge.is ∙ shape_of-NotWordEdge)
+    (refl, no_run_entered c.args.cursor.now.position c.args.entries.now, omega arith, omega arith)
 
-pub enter_run-requires-clause-room : goal.enter_run-requires-clause-room
-enter_run-requires-clause-room t c =
+pub enter_run-requires : goal.enter_run-requires
+enter_run-requires t c =
     let e : shape_of c.args.part.now ≡ run c.in-Run.n = ap shape_of c.in-Run.is ∙ shape_of-Run c.in-Run.n in
-    rw (e, position_count_run c.in-Run.n) at c.requires.room
+    rw e at c.requires.room
 
-pub returns-in-Run-clause-entries : goal.returns-in-Run-clause-entries
-returns-in-Run-clause-entries t c =
+pub returns-in-Run-clause-enters : goal.returns-in-Run-clause-enters
+returns-in-Run-clause-enters t c =
     let e : shape_of c.args.part.now ≡ run c.in-Run.n = ap shape_of c.in-Run.is ∙ shape_of-Run c.in-Run.n in
-    rw (e, position_count_run c.in-Run.n) (c.enter_run.ensures.entries c.args.at.now.here)
+    rw e c.enter_run.ensures
 
-pub returns-in-Run-clause-position : goal.returns-in-Run-clause-position
-returns-in-Run-clause-position t c =
-    let e : shape_of c.args.part.now ≡ run c.in-Run.n = ap shape_of c.in-Run.is ∙ shape_of-Run c.in-Run.n in
-    rw (e, position_count_run c.in-Run.n) c.enter_run.ensures.position
-
-pub returns-in-Run-clause-repeat : goal.returns-in-Run-clause-repeat
-returns-in-Run-clause-repeat t c =
-    let e : shape_of c.args.part.now ≡ run c.in-Run.n = ap shape_of c.in-Run.is ∙ shape_of-Run c.in-Run.n in
-    rw (e, repeats_run c.in-Run.n) (omega (arith, c.enter_run.ensures.repeat))
-
-pub enter_sequences-requires-clause-room : goal.enter_sequences-requires-clause-room
-enter_sequences-requires-clause-room t c =
+pub enter_sequences-requires : goal.enter_sequences-requires
+enter_sequences-requires t c =
     let ns = c.in-Alternation.sequences in
     let e : shape_of c.args.part.now ≡ alt (runs ns) = ap shape_of c.in-Alternation.is ∙ shape_of-Alternation ns in
     rw e at c.requires.room
 
-pub returns-in-Alternation-clause-accepting : goal.returns-in-Alternation-clause-accepting
-returns-in-Alternation-clause-accepting t c =
+pub returns-in-Alternation-clause-enters : goal.returns-in-Alternation-clause-enters
+returns-in-Alternation-clause-enters t c =
     let ns = c.in-Alternation.sequences in
     let e : shape_of c.args.part.now ≡ alt (runs ns) = ap shape_of c.in-Alternation.is ∙ shape_of-Alternation ns in
-    rw e (c.enter_sequences.ensures.accepting c.args.at.now.here)
+    rw e c.enter_sequences.ensures.enters
 
-pub returns-in-Alternation-clause-entries : goal.returns-in-Alternation-clause-entries
-returns-in-Alternation-clause-entries t c =
-    let ns = c.in-Alternation.sequences in
-    let e : shape_of c.args.part.now ≡ alt (runs ns) = ap shape_of c.in-Alternation.is ∙ shape_of-Alternation ns in
-    rw e (c.enter_sequences.ensures.entries c.args.at.now.here)
-
-pub returns-in-Alternation-clause-position : goal.returns-in-Alternation-clause-position
-returns-in-Alternation-clause-position t c =
-    let ns = c.in-Alternation.sequences in
-    let e : shape_of c.args.part.now ≡ alt (runs ns) = ap shape_of c.in-Alternation.is ∙ shape_of-Alternation ns in
-    rw e c.enter_sequences.ensures.position
-
-pub returns-in-Alternation-clause-repeat : goal.returns-in-Alternation-clause-repeat
-returns-in-Alternation-clause-repeat t c =
-    let ns = c.in-Alternation.sequences in
-    let e : shape_of c.args.part.now ≡ alt (runs ns) = ap shape_of c.in-Alternation.is ∙ shape_of-Alternation ns in
-    rw (e, repeats_runs ns) (omega (arith, c.enter_sequences.ensures.repeat))
-
-pub returns-in-Options-clause-repeat : goal.returns-in-Options-clause-repeat
-returns-in-Options-clause-repeat t c =
+pub returns-in-Options-clause-enters : goal.returns-in-Options-clause-enters
+returns-in-Options-clause-enters t c =
     let n = c.in-Options.n in
     let count = c.in-Options.count in
     let e : shape_of c.args.part.now ≡ options n count = ap shape_of c.in-Options.is ∙ shape_of-Options n count in
-    rw (e, repeats_options n count) (omega (arith, c.enter_options.ensures.repeat))
+    rw e c.enter_options.ensures

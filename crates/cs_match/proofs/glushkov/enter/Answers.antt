@@ -13,10 +13,10 @@ returns-clause-entries c =
     let s = shape_of c.part-part.result.now in
     let ms = c.args.positions.now in
     let same = c.part-part.ensures.shape in
-    ap (take (position_count t)) c.advance.ensures.entries
-    ∙ take_at (entered s c.args.at.may_begin ms c.args.at.here) (drop (0 + position_count s) c.shift_from.new.self) (position_count t)
-    (length-entered s c.args.at.may_begin ms c.args.at.here ∙ sym same.positions)
-    ∙ sym (same.entered c.args.at.may_begin ms c.args.at.here)
+    ap (take (position_count t)) c.advance.ensures.enters.1
+    ∙ take_at (entered s c.args.at.begins ms c.args.at.here) (drop (0 + position_count s) c.shift_from.new.self) (position_count t)
+    (length-entered s c.args.at.begins ms c.args.at.here ∙ sym same.positions)
+    ∙ sym (same.entered c.args.at.begins ms c.args.at.here)
 
 pub returns-clause-scratch : goal.returns-clause-scratch
 returns-clause-scratch c =
@@ -28,8 +28,8 @@ returns-clause-scratch c =
     let room : 0 + position_count s ≤ length old = omega (arith, size, c.requires.one_each, same.positions) in
     record {
       loops = c.requires.scratch.loops;
-      entries = mid_long 0 (position_count s) old c.advance.new.entries (entered s c.args.at.may_begin ms c.args.at.here)
-          (length-entered s c.args.at.may_begin ms c.args.at.here) room c.advance.ensures.entries
+      entries = mid_long 0 (position_count s) old c.advance.new.entries (entered s c.args.at.begins ms c.args.at.here)
+          (length-entered s c.args.at.begins ms c.args.at.here) room c.advance.ensures.enters.1
           ∙ omega (arith, size, c.requires.one_each);
       masks = c.requires.scratch.masks;
     }

@@ -1,4 +1,4 @@
-use Rattle.std.proofs.Common.{◌+◌, arith, inl, inr}
+use Rattle.std.proofs.Common.{◌+◌, arith, inl}
 use Rattle.cs_match.proofs.ChunkLemmas.{line_chunk, fewest_lines}
 use Rattle.cs_match.proofs.WholeLineLemmas.{whole_from}
 use Rattle.cs_match.proofs.lanes.cut.Goals as goal

@@ -21,16 +21,16 @@ returns-then-stop-rest-clause-candidate c =
     (without (λ xs k. Any (WordAt xs k) words) (words_placed words) text
     (λ k low h. c.skip-stop.ensures.none k (omega arith) (omega (arith, all)) h.0 h.1 h.2 (subst (WordAt text k) (sym h.3) h.4)))
 
-pub line_end-requires-clause-within : goal.line_end-requires-clause-within
-line_end-requires-clause-within c = omega (
+pub line_end-end-requires-clause-within : goal.line_end-end-requires-clause-within
+line_end-end-requires-clause-within c = omega (
   arith,
   c.skip-stop.ensures.high,
   c.if-stop-rest.false,
   length-drop c.args.from c.args.block.now,
 )
 
-pub line_end-requires-clause-whole : goal.line_end-requires-clause-whole
-line_end-requires-clause-whole c = whole_from c.args.block.now c.args.from _ (omega arith) c.requires.whole
+pub line_end-end-requires-clause-whole : goal.line_end-end-requires-clause-whole
+line_end-end-requires-clause-whole c = whole_from c.args.block.now c.args.from _ (omega arith) c.requires.whole
 
 pub returns-clause-candidate : goal.returns-clause-candidate
 returns-clause-candidate c =
@@ -40,7 +40,7 @@ returns-clause-candidate c =
     let rest = drop from block in
     let offset = c.skip-stop.result.offset in
     let size = c.whole_lines_len-len.result in
-    let end = c.line_end.result in
+    let end = c.line_end-end.result in
     let all : take (length block - from) rest ≡ rest = take_rest block from in
     let skip = c.skip-stop.ensures in
     let below : offset ≤ length rest = omega (arith, skip.high, ap (λ (t : List ℕ). length t) all) in
@@ -48,7 +48,7 @@ returns-clause-candidate c =
     let lines = c.whole_lines_len-len.ensures in
     let within : size ≤ length (take offset rest) = subst (λ (t : List ℕ). size ≤ length (take offset t)) all lines.within in
     let small : size ≤ offset = omega (arith, within, prefix) in
-    let e = c.line_end.ensures in
+    let e = c.line_end-end.ensures in
     record {
       line = line_around block from offset size end within
           (subst (λ (t : List ℕ). AreWholeLines (take size (take offset t))) all lines.whole)

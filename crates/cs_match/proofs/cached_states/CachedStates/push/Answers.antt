@@ -1,6 +1,5 @@
 use Rattle.std.proofs.Common.{◌≡◌, ◌+◌, ◌<◌, ◌++◌, ◌∷◌, [], Bool, List, length, sym, ◌∙◌, ap, subst, arith}
 use Rattle.std.specs.Prelude.{Result, Ok, is_ok, if◌then◌else◌}
-use Rattle.cs_match.specs.declared.state.Behind.{Behind}
 use Rattle.cs_match.specs.declared.state.State.{State}
 use Rattle.cs_match.specs.CachedStates.{StateList, states_of}
 use Rattle.cs_match.specs.PositionSet.{positions_of, IsPositionSet}

@@ -2,7 +2,7 @@ use Rattle.std.proofs.Common.{◌≡◌, ◌∙◌, ap, sym, subst, length, fals
 use Rattle.cs_match.specs.declared.state.State.{State}
 use Rattle.cs_match.specs.Digits.{IsBlock}
 use Rattle.cs_match.specs.Glushkov.{cuts_of}
-use Rattle.cs_match.specs.LazyDfa.{IsSlot, accepting, state_at}
+use Rattle.cs_match.specs.LazyDfa.{accepting, state_at}
 use Rattle.cs_match.specs.Work.{words}
 use Rattle.cs_match.specs.States.{start, successor, accepts_before}
 use Rattle.cs_match.specs.ConsistentDfa.{Dfa, HasSlot}

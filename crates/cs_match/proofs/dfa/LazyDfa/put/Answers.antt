@@ -1,5 +1,5 @@
-use Rattle.std.proofs.Common.{refl, sym, ap, subst, ◌+◌, ◌*◌, get_or, get_or-set_same, arith}
-use Rattle.cs_match.specs.ConsistentDfa.{Dfa, HasSlot, LeadsIn, count_in, state_in}
+use Rattle.std.proofs.Common.{sym, subst, ◌+◌, ◌*◌, get_or, get_or-set_same, arith}
+use Rattle.cs_match.specs.ConsistentDfa.{Dfa, HasSlot, LeadsIn, state_in}
 use Rattle.cs_match.proofs.TransitionLemmas.{transition_in, put_transition}
 use Rattle.cs_match.proofs.dfa.LazyDfa.put.Goals as goal
 

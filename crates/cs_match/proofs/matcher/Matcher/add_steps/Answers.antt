@@ -4,7 +4,7 @@ use Rattle.cs_match.proofs.matcher.Matcher.add_steps.Goals as goal
 
 pub returns : goal.returns
 returns c =
-    let dfa = c.self.inside.dfa in
+    let dfa = c.self.inside.lister.dfa in
     let at : ℕ → Automaton = λ n. record {
       tree = dfa.tree;
       states = length dfa.states.cached.items - 4;

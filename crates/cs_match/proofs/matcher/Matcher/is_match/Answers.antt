@@ -2,7 +2,7 @@ use Rattle.std.proofs.Common.{◌↔◌, length, take, subst}
 use Rattle.std.specs.Prelude.{IsTrue}
 use Rattle.cs_syntax.specs.Matching.{HasMatch}
 use Rattle.cs_match.specs.Automaton.{Automaton}
-use Rattle.cs_match.specs.ConsistentDfa.{automaton_of}
+use Rattle.cs_match.specs.Listing.{automaton_of}
 use Rattle.cs_match.specs.Work.{WorksWithin, line_work}
 use Rattle.cs_match.proofs.matcher.Matcher.is_match.Goals as goal
 
@@ -13,4 +13,4 @@ returns-clause-found c =
 pub returns-clause-work : goal.returns-clause-work
 returns-clause-work c =
     subst (λ (a : Automaton). WorksWithin (line_work a.tree (length c.args.line.now)) a
-    (automaton_of c.is_match.new.self (take c.self.inside.listed c.self.inside.ends.items) c.is_match.new.steps)) c.self.view_is c.is_match.ensures.work.1
+    (automaton_of (record c.self.inside.lister { dfa = c.is_match.new.self; steps = c.is_match.new.steps }) (take c.self.inside.listed c.self.inside.ends.items))) c.self.view_is c.is_match.ensures.work.1

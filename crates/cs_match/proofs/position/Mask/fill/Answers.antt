@@ -9,8 +9,8 @@ returns-clause-mask c =
     let i = c.loop-index.invariant in
     let all : length ps ≤ c.loop-index.index = omega arith in
     record {
-      entered = rw i.input (all_put (if_entered c.args.input) ps c.loop-index.self.entered c.loop-index.index i.entered_room all i.entered);
-      previous = rw i.input (all_put (if_previous c.args.input) ps c.loop-index.self.previous c.loop-index.index
-          i.previous_room all i.previous);
-      kept = rw i.input (all_put (if_kept c.args.input) ps c.loop-index.self.kept c.loop-index.index i.kept_room all i.kept);
+      entered = all_put (if_entered c.args.input) ps c.loop-index.self.entered c.loop-index.index i.entered_room all i.entered;
+      previous = all_put (if_previous c.args.input) ps c.loop-index.self.previous c.loop-index.index
+          i.previous_room all i.previous;
+      kept = all_put (if_kept c.args.input) ps c.loop-index.self.kept c.loop-index.index i.kept_room all i.kept;
     }

@@ -1,12 +1,12 @@
-use Rattle.std.proofs.Common.{◌≡◌, ℕ, ◌+◌, ◌<◌, true, false, length, map, get_or}
+use Rattle.std.proofs.Common.{◌≡◌, ℕ, ◌+◌, ◌<◌, false, length, map, get_or}
+use Rattle.std.specs.Prelude.{Some}
 use Rattle.cs_match.specs.Entered.{if_entered, if_previous, if_kept}
 use Rattle.cs_match.proofs.position.Mask.fill.Given as goal
 
 abbrev pub invariant-loop-index : goal.invariant-loop-index
 invariant-loop-index l = record {
   cost : l.steps.count ≡ l.fn.steps.count + l.index;
-  input : l.self.input ≡ l.input;
-  known : l.self.is_known ≡ true;
+  input : l.self.input ≡ Some l.input;
   entered_room : length l.self.entered ≡ length l.positions;
   previous_room : length l.self.previous ≡ length l.positions;
   kept_room : length l.self.kept ≡ length l.positions;

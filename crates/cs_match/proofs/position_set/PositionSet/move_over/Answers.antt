@@ -23,29 +23,29 @@ index-entry-requires c =
 
 pub index-requires : goal.index-requires
 index-requires c =
-    let as_many = same_length _ _ _ _ _ _ c.if_entered.invariant c.self.invariant c.if_entered.view_is c.self.view_is
-    c.requires.if_entered in
-    omega (arith, c.len-index-end.ensures, c.self.inside.words.ok.0, c.if_entered.inside.words.ok.0)
+    let as_many = same_length _ _ _ _ _ _ c.entered.invariant c.self.invariant c.entered.view_is c.self.view_is
+    c.requires.mask.entered in
+    omega (arith, c.len-index-end.ensures, c.self.inside.words.ok.0, c.entered.inside.words.ok.0)
 
 pub index-requires-in-loop-index : goal.index-requires-in-loop-index
 index-requires-in-loop-index c =
-    let as_many = same_length _ _ _ _ _ _ c.if_previous.invariant c.self.invariant c.if_previous.view_is c.self.view_is
-    c.requires.if_previous in
-    omega (arith, c.len-index-end.ensures, c.self.inside.words.ok.0, c.if_previous.inside.words.ok.0)
+    let as_many = same_length _ _ _ _ _ _ c.previous.invariant c.self.invariant c.previous.view_is c.self.view_is
+    c.requires.mask.previous in
+    omega (arith, c.len-index-end.ensures, c.self.inside.words.ok.0, c.previous.inside.words.ok.0)
 
 pub index-requires-in-loop-index-3 : goal.index-requires-in-loop-index-3
 index-requires-in-loop-index-3 c =
-    let as_many = same_length _ _ _ _ _ _ c.if_kept.invariant c.self.invariant c.if_kept.view_is c.self.view_is c.requires.if_kept in
-    omega (arith, c.len-index-end.ensures, c.self.inside.words.ok.0, c.if_kept.inside.words.ok.0)
+    let as_many = same_length _ _ _ _ _ _ c.kept.invariant c.self.invariant c.kept.view_is c.self.view_is c.requires.mask.kept in
+    omega (arith, c.len-index-end.ensures, c.self.inside.words.ok.0, c.kept.inside.words.ok.0)
 
 pub loop-index-preserved : goal.loop-index-preserved
 loop-index-preserved c =
     let now = c.loop-index.self-inside.words.items in
     let old = c.self.inside.words.items in
     let entries = c.entries.inside.words.items in
-    let ins = c.if_entered.inside.words.items in
-    let befores = c.if_previous.inside.words.items in
-    let keeps = c.if_kept.inside.words.items in
+    let ins = c.entered.inside.words.items in
+    let befores = c.previous.inside.words.items in
+    let keeps = c.kept.inside.words.items in
     let at = c.loop-index.index in
     let more = one_more entries old _ _ _ _ c.entries.view_is c.self.view_is c.requires.entries in
     let in-old : at < length old = omega (arith, c.len-index-end.ensures, c.self.inside.words.ok.0) in
@@ -54,20 +54,20 @@ loop-index-preserved c =
     let in-ins : at < length ins = omega (
       arith,
       in-old,
-      same_length _ _ _ _ _ _ c.if_entered.invariant c.self.invariant
-          c.if_entered.view_is c.self.view_is c.requires.if_entered,
+      same_length _ _ _ _ _ _ c.entered.invariant c.self.invariant
+          c.entered.view_is c.self.view_is c.requires.mask.entered,
     ) in
     let in-befores : at < length befores = omega (
       arith,
       in-old,
-      same_length _ _ _ _ _ _ c.if_previous.invariant
-          c.self.invariant c.if_previous.view_is c.self.view_is c.requires.if_previous,
+      same_length _ _ _ _ _ _ c.previous.invariant
+          c.self.invariant c.previous.view_is c.self.view_is c.requires.mask.previous,
     ) in
     let in-keeps : at < length keeps = omega (
       arith,
       in-old,
-      same_length _ _ _ _ _ _ c.if_kept.invariant
-          c.self.invariant c.if_kept.view_is c.self.view_is c.requires.if_kept,
+      same_length _ _ _ _ _ _ c.kept.invariant
+          c.self.invariant c.kept.view_is c.self.view_is c.requires.mask.kept,
     ) in
     let e : c.index-entry.result.now ≡ get_or entries at 0 = get_or_read entries at _ in-entries c.index-entry.ensures 0 in
     let i : c.index.result.now ≡ get_or ins at 0 = get_or_read ins at _ in-ins c.index.ensures 0 in
@@ -106,31 +106,31 @@ entries-are : (c : After-loop-index) → IsPositionSet c.entries.inside.words.it
 entries-are c = rw (one_more c.entries.inside.words.items c.self.inside.words.items _ _ _ _ c.entries.view_is
     c.self.view_is c.requires.entries) at c.entries.invariant
 
-ins-are : (c : After-loop-index) → IsPositionSet c.if_entered.inside.words.items c.self.inside.count
-ins-are c = rw (same_count c.if_entered.inside.words.items c.self.inside.words.items _ _ _ _ c.if_entered.view_is
-    c.self.view_is c.requires.if_entered) at c.if_entered.invariant
+ins-are : (c : After-loop-index) → IsPositionSet c.entered.inside.words.items c.self.inside.count
+ins-are c = rw (same_count c.entered.inside.words.items c.self.inside.words.items _ _ _ _ c.entered.view_is
+    c.self.view_is c.requires.mask.entered) at c.entered.invariant
 
-befores-are : (c : After-loop-index) → IsPositionSet c.if_previous.inside.words.items c.self.inside.count
-befores-are c = rw (same_count c.if_previous.inside.words.items c.self.inside.words.items _ _ _ _
-    c.if_previous.view_is c.self.view_is c.requires.if_previous) at c.if_previous.invariant
+befores-are : (c : After-loop-index) → IsPositionSet c.previous.inside.words.items c.self.inside.count
+befores-are c = rw (same_count c.previous.inside.words.items c.self.inside.words.items _ _ _ _
+    c.previous.view_is c.self.view_is c.requires.mask.previous) at c.previous.invariant
 
-keeps-are : (c : After-loop-index) → IsPositionSet c.if_kept.inside.words.items c.self.inside.count
-keeps-are c = rw (same_count c.if_kept.inside.words.items c.self.inside.words.items _ _ _ _ c.if_kept.view_is
-    c.self.view_is c.requires.if_kept) at c.if_kept.invariant
+keeps-are : (c : After-loop-index) → IsPositionSet c.kept.inside.words.items c.self.inside.count
+keeps-are c = rw (same_count c.kept.inside.words.items c.self.inside.words.items _ _ _ _ c.kept.view_is
+    c.self.view_is c.requires.mask.kept) at c.kept.invariant
 
 -- every word is moved
 all-done : (c : After-loop-index) (k : ℕ) → k < length c.self.inside.words.items →
     get_or c.loop-index.self-inside.words.items k 0
-    ≡ moved_word (get_or c.entries.inside.words.items k 0) (get_or c.if_entered.inside.words.items k 0)
-    (shifted c.entries.inside.words.items k) (get_or c.if_previous.inside.words.items k 0)
-    (get_or c.self.inside.words.items k 0) (get_or c.if_kept.inside.words.items k 0)
+    ≡ moved_word (get_or c.entries.inside.words.items k 0) (get_or c.entered.inside.words.items k 0)
+    (shifted c.entries.inside.words.items k) (get_or c.previous.inside.words.items k 0)
+    (get_or c.self.inside.words.items k 0) (get_or c.kept.inside.words.items k 0)
 all-done c k h = c.loop-index.invariant.done k (omega (arith, h, c.len-index-end.ensures, c.self.inside.words.ok.0))
 
 pub invariant_of-self : goal.invariant_of-self
 invariant_of-self c =
     rw c.loop-index.invariant.position_count
-    (IsPositionSet-moved _ c.self.inside.words.items c.entries.inside.words.items c.if_entered.inside.words.items
-    c.if_previous.inside.words.items c.if_kept.inside.words.items c.self.inside.count
+    (IsPositionSet-moved _ c.self.inside.words.items c.entries.inside.words.items c.entered.inside.words.items
+    c.previous.inside.words.items c.kept.inside.words.items c.self.inside.count
     c.self.invariant (entries-are c) (ins-are c) (befores-are c) (keeps-are c) c.loop-index.invariant.as_many (all-done c))
 
 pub returns-clause-length : goal.returns-clause-length
@@ -144,27 +144,27 @@ returns-clause-each c = λ k h.
     let within : k < count = omega (arith, h, length-positions_of c.self.inside.words.items count, ap length c.self.view_is) in
     let es = rw (one_more c.entries.inside.words.items c.self.inside.words.items _ _ _ _ c.entries.view_is
     c.self.view_is c.requires.entries) at c.entries.view_is in
-    let ins = rw (same_count c.if_entered.inside.words.items c.self.inside.words.items _ _ _ _ c.if_entered.view_is
-    c.self.view_is c.requires.if_entered) at c.if_entered.view_is in
-    let befores = rw (same_count c.if_previous.inside.words.items c.self.inside.words.items _ _ _ _
-    c.if_previous.view_is c.self.view_is c.requires.if_previous) at c.if_previous.view_is in
-    let keeps = rw (same_count c.if_kept.inside.words.items c.self.inside.words.items _ _ _ _ c.if_kept.view_is
-    c.self.view_is c.requires.if_kept) at c.if_kept.view_is in
+    let ins = rw (same_count c.entered.inside.words.items c.self.inside.words.items _ _ _ _ c.entered.view_is
+    c.self.view_is c.requires.mask.entered) at c.entered.view_is in
+    let befores = rw (same_count c.previous.inside.words.items c.self.inside.words.items _ _ _ _
+    c.previous.view_is c.self.view_is c.requires.mask.previous) at c.previous.view_is in
+    let keeps = rw (same_count c.kept.inside.words.items c.self.inside.words.items _ _ _ _ c.kept.view_is
+    c.self.view_is c.requires.mask.kept) at c.kept.view_is in
     ap (λ n. get_or (positions_of c.loop-index.self-inside.words.items n) k false) c.loop-index.invariant.position_count
-    ∙ get_or-moved_words _ c.self.inside.words.items c.entries.inside.words.items c.if_entered.inside.words.items
-    c.if_previous.inside.words.items c.if_kept.inside.words.items count
+    ∙ get_or-moved_words _ c.self.inside.words.items c.entries.inside.words.items c.entered.inside.words.items
+    c.previous.inside.words.items c.kept.inside.words.items count
     c.self.invariant (entries-are c) (ins-are c) (befores-are c) (keeps-are c) c.loop-index.invariant.as_many
     (all-done c) k within
-    ∙ ap (λ xs. is_moved xs (positions_of c.if_entered.inside.words.items count)
-    (positions_of c.if_previous.inside.words.items count) (positions_of c.if_kept.inside.words.items count)
+    ∙ ap (λ xs. is_moved xs (positions_of c.entered.inside.words.items count)
+    (positions_of c.previous.inside.words.items count) (positions_of c.kept.inside.words.items count)
     (positions_of c.self.inside.words.items count) k) es
-    ∙ ap (λ xs. is_moved c.args.entries.now xs (positions_of c.if_previous.inside.words.items count)
-    (positions_of c.if_kept.inside.words.items count) (positions_of c.self.inside.words.items count) k) ins
-    ∙ ap (λ xs. is_moved c.args.entries.now c.args.if_entered.now xs (positions_of c.if_kept.inside.words.items count)
+    ∙ ap (λ xs. is_moved c.args.entries.now xs (positions_of c.previous.inside.words.items count)
+    (positions_of c.kept.inside.words.items count) (positions_of c.self.inside.words.items count) k) ins
+    ∙ ap (λ xs. is_moved c.args.entries.now c.args.mask.now.entered xs (positions_of c.kept.inside.words.items count)
     (positions_of c.self.inside.words.items count) k) befores
-    ∙ ap (λ xs. is_moved c.args.entries.now c.args.if_entered.now c.args.if_previous.now xs
+    ∙ ap (λ xs. is_moved c.args.entries.now c.args.mask.now.entered c.args.mask.now.previous xs
     (positions_of c.self.inside.words.items count) k) keeps
-    ∙ ap (λ xs. is_moved c.args.entries.now c.args.if_entered.now c.args.if_previous.now c.args.if_kept.now xs k) c.self.view_is
+    ∙ ap (λ xs. is_moved c.args.entries.now c.args.mask.now.entered c.args.mask.now.previous c.args.mask.now.kept xs k) c.self.view_is
 
 pub returns-clause-cost : goal.returns-clause-cost
 returns-clause-cost c = omega (

@@ -13,7 +13,7 @@ invariant-loop-index l =
       as_many : length l.self-inside.words.items ≡ length old;
       carries : l.carried ≡ carry entries l.index;
       done : (k : ℕ) → k < l.index → get_or l.self-inside.words.items k 0
-          ≡ moved_word (get_or entries k 0) (get_or l.if_entered-inside.words.items k 0) (shifted entries k)
-          (get_or l.if_previous-inside.words.items k 0) (get_or old k 0) (get_or l.if_kept-inside.words.items k 0);
+          ≡ moved_word (get_or entries k 0) (get_or l.entered-inside.words.items k 0) (shifted entries k)
+          (get_or l.previous-inside.words.items k 0) (get_or old k 0) (get_or l.kept-inside.words.items k 0);
       pending : (k : ℕ) → l.index ≤ k → get_or l.self-inside.words.items k 0 ≡ get_or old k 0;
     }

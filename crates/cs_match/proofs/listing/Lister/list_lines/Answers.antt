@@ -6,11 +6,11 @@ use Rattle.cs_match.proofs.ChunkLemmas.{AreListed-none, AreListed-append, filled
 use Rattle.cs_match.proofs.ListingLemmas.{first_of_rest}
 use Rattle.cs_match.proofs.SearchWorkLemmas.{work_on}
 use Rattle.cs_match.proofs.WholeLineLemmas.{whole_from}
-use Rattle.cs_match.proofs.listing.list_lines.Goals as goal
+use Rattle.cs_match.proofs.listing.Lister.list_lines.Goals as goal
 
 pub parts-init : goal.parts-init
 parts-init c = record {
-  listed = AreListed-none (λ has_match. Decides has_match c.args.dfa.now.tree) c.args.block.now c.args.from c.args.ends.now c.requires.within;
+  listed = AreListed-none (λ has_match. Decides has_match c.args.self.now.dfa.tree) c.args.block.now c.args.from c.args.ends.now c.requires.within;
   one = λ len none. let no : ⊥ = omega (arith, none) in absurd no;
   same = refl;
   rises = omega arith;
@@ -26,7 +26,7 @@ parts-preserved c =
     let i = c.parts.invariant in
     let e = c.list_part-part.ensures in
     let block = c.args.block.now in
-    let t = c.args.dfa.now.tree in
+    let t = c.args.self.now.dfa.tree in
     let count = c.parts.count in
     let old = c.parts.ends in
     let own = c.list_part-part.new.ends in

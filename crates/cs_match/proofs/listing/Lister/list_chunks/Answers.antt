@@ -1,7 +1,6 @@
 use Rattle.std.proofs.Common.{◌≡◌, ◌≢◌, ◌+◌, ◌-◌, ◌*◌, ◌/◌, ◌≤◌, ◌++◌, length, take, drop, get_or, refl, sym, ap, subst, ◌∙◌, arith}
 use Rattle.std.specs.Prelude.{slice_index_or}
-use Rattle.cs_prefilter.specs.declared.steps.Steps.{Steps}
-use Rattle.cs_match.specs.ConsistentDfa.{Dfa}
+use Rattle.cs_match.specs.declared.listing.Lister.{Lister}
 use Rattle.cs_match.specs.declared.lanes.Lane.{Lane}
 use Rattle.cs_match.specs.Deciding.{Decides}
 use Rattle.cs_match.specs.Work.{byte_work}
@@ -9,17 +8,17 @@ use Rattle.cs_match.specs.Table.{unknown, TellsLines}
 use Rattle.cs_match.specs.MatchingEnds.{newlines_between}
 use Rattle.cs_match.specs.Lanes.{AreListed, quarter}
 use Rattle.cs_match.proofs.ChunkLemmas.{newlines_within, chunk_within, moved_ends, moved_rest, pending-quarter, pending-more, quarter_within, length-quarter, room_between, work-more, moved-work, pending-far, own-len, filled-len, filled, filled-rest, AreListed-none, AreListed-lane, AreListed-append, AreListed-kind, lists_all}
-use Rattle.cs_match.proofs.lanes.list_chunks.Goals as goal
-use Rattle.cs_match.proofs.lanes.list_chunks.Goals.{then-lane-unknown, else-lane-unknown}
+use Rattle.cs_match.proofs.listing.Lister.list_chunks.Goals as goal
+use Rattle.cs_match.proofs.listing.Lister.list_chunks.Goals.{then-lane-unknown, else-lane-unknown}
 
 abbrev other : Lane
 other = record { from = 0; number = 0; count = 0 }
 
 pub loop-k-init : goal.loop-k-init
 loop-k-init c = record {
-  listed = subst (λ at. AreListed (λ has_match. Decides has_match c.args.dfa.now.tree) c.args.block.now c.args.from at 0 c.four_lanes-lanes.new.ends)
+  listed = subst (λ at. AreListed (λ has_match. Decides has_match c.args.self.now.dfa.tree) c.args.block.now c.args.from at 0 c.four_lanes-lanes.new.ends)
       (sym c.four_chunks-cuts.ensures.cuts.first)
-      (AreListed-none (λ has_match. Decides has_match c.args.dfa.now.tree) c.args.block.now c.args.from c.four_lanes-lanes.new.ends c.requires.within);
+      (AreListed-none (λ has_match. Decides has_match c.args.self.now.dfa.tree) c.args.block.now c.args.from c.four_lanes-lanes.new.ends c.requires.within);
   room = omega arith;
   pending = refl;
   same = refl;
@@ -82,7 +81,7 @@ loop-k-preserved c =
     let cuts = c.four_chunks-cuts.result in
     let x = get_or cuts k 0 in
     let y = get_or cuts (k + 1) 0 in
-    let t = c.args.dfa.now.tree in
+    let t = c.args.self.now.dfa.tree in
     let first = c.four_lanes-lanes.new.ends in
     let stop = (k + 1) * n in
     let count = c.loop-k.count in
@@ -113,10 +112,10 @@ loop-k-preserved c =
           (omega (arith, chunk.few, len, i.room, next)) listed_to e.most (λ other. e.all other ∙ sym size) in
           let listed : AreListed (λ has_match. Decides has_match t) block x y more own =
           subst (λ k. AreListed (λ has_match. Decides has_match t) block x k more own) full listed_to in
-          let work : w.list_ends-listed.new.steps.count ≤ c.loop-k.steps.count + byte_work t * (y - x) =
-          subst (λ tree. w.list_ends-listed.new.steps.count ≤ c.loop-k.steps.count + byte_work tree * (y - x)) i.same
-          (subst (λ k. w.list_ends-listed.new.steps.count ≤ c.loop-k.steps.count + byte_work c.loop-k.dfa.tree * (k - x)) full e.work.1.1) in
-          let steps = ap (λ (s : Steps). s.count) w.steps-is in
+          let work : w.list_ends-listed.new.steps.count ≤ c.loop-k.self.steps.count + byte_work t * (y - x) =
+          subst (λ tree. w.list_ends-listed.new.steps.count ≤ c.loop-k.self.steps.count + byte_work tree * (y - x)) i.same
+          (subst (λ k. w.list_ends-listed.new.steps.count ≤ c.loop-k.self.steps.count + byte_work c.loop-k.self.dfa.tree * (k - x)) full e.work.1.1) in
+          let steps = ap (λ (s : Lister). s.steps.count) w.self-is in
           record {
             listed = subst (λ m. AreListed (λ has_match. Decides has_match t) block c.args.from y m c.if-lane-unknown.ends) (sym w.count-is)
                 (AreListed-append (λ has_match. Decides has_match t) block c.args.from x y count more old own c.if-lane-unknown.ends i.listed listed
@@ -124,9 +123,9 @@ loop-k-preserved c =
                 (filled old own c.if-lane-unknown.ends count stop low high size is more listed.room));
             room = omega (arith, w.count-is, listed.room, len, low);
             pending = filled-rest old own c.if-lane-unknown.ends count stop low high size is ∙ pending-far old first (k * n) n stop next i.pending;
-            same = ap (λ (s : Dfa). s.tree) w.dfa-is ∙ e.work.0 ∙ i.same;
+            same = ap (λ (s : Lister). s.dfa.tree) w.self-is ∙ e.work.0 ∙ i.same;
             rises = omega (arith, steps, e.work.1.0, i.rises);
-            work = work-more (byte_work t) c.args.from x y c.add.new.self.count c.loop-k.steps.count c.if-lane-unknown.steps.count
+            work = work-more (byte_work t) c.args.from x y c.add.new.self.count c.loop-k.self.steps.count c.if-lane-unknown.self.steps.count
                 i.listed.lines.low chunk.lines.low i.work (omega (arith, steps, work));
           }
       | else-lane-unknown w ↦
@@ -136,12 +135,12 @@ loop-k-preserved c =
           let seen : lane.count ≤ newlines_between block x y = omega (arith, is.lane.few, ap (λ f. newlines_between block f y) is.from) in
           let few : lane.count ≤ n = omega (arith, seen, chunk.few) in
           let size : k * n + lane.count - k * n ≡ lane.count = omega arith in
-          let known : lane.number ≢ unknown c.table-table.result = λ e. w.if-lane-unknown.false (e ∙ sym c.unknown-unknown.ensures) in
+          let known : lane.number ≢ unknown c.table-table.result = w.if-lane-unknown.false in
           let own : AreListed (λ has_match. Decides has_match t) block x y lane.count (quarter k first) =
           AreListed-kind (λ has_match. TellsLines has_match c.table-table.result) (λ has_match. Decides has_match t) c.table-table.ensures.tells
           block x y lane.count (quarter k first) (AreListed-lane c.table-table.result block x y n lane (quarter k first) is.lane is.from chunk
           (omega (arith, length-quarter first k c.loop-k-test.true, part)) known) in
-          let steps = ap (λ (s : Steps). s.count) w.steps-is in
+          let steps = ap (λ (s : Lister). s.steps.count) w.self-is in
           let new = w.copy_within.new.self in
           let order : count ≤ k * n = i.room in
           let within : k * n + lane.count ≤ length old = omega (arith, few, next, high) in
@@ -157,11 +156,11 @@ loop-k-preserved c =
             room = omega (arith, w.count-is, i.room, few, next);
             pending = ap (drop stop) w.ends-is
                 ∙ pending-more new old first (k * n) lane.count n stop few next (moved_rest old new count (k * n) lane.count order within is_moved) i.pending;
-            same = ap (λ (s : Dfa). s.tree) w.dfa-is ∙ i.same;
+            same = ap (λ (s : Lister). s.dfa.tree) w.self-is ∙ i.same;
             rises = omega (arith, steps, w.add-else-lane-unknown.ensures, i.rises);
-            work = work-more (byte_work t) c.args.from x y c.add.new.self.count c.loop-k.steps.count c.if-lane-unknown.steps.count
+            work = work-more (byte_work t) c.args.from x y c.add.new.self.count c.loop-k.self.steps.count c.if-lane-unknown.self.steps.count
                 i.listed.lines.low chunk.lines.low i.work
-                (moved-work (byte_work t) (y - x) lane.count c.loop-k.steps.count c.if-lane-unknown.steps.count (omega arith)
+                (moved-work (byte_work t) (y - x) lane.count c.loop-k.self.steps.count c.if-lane-unknown.self.steps.count (omega arith)
                 (steps ∙ w.add-else-lane-unknown.ensures) (omega (arith, seen, newlines_within block x y)));
           }
     ]

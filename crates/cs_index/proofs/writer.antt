@@ -1,5 +1,6 @@
 pub mod BucketPostings
 pub mod BuilderAdd
+pub mod CodedStrings
 pub mod EntriesOfLists
 pub mod IdAdded
 pub mod LeastLength

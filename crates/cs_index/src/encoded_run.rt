@@ -3,11 +3,7 @@
 ghost use Rattle.std.specs.Prelude.{◌≡◌, ◌<◌, ◌≤◌, ◌+◌, ◌++◌, [], true, length, sum, take, false, map, MatchOption};
 ghost use Rattle.std.specs.List.{AllByRecursion};
 ghost use Rattle.std.specs.Simd.Lanes.{mask_l, sum_l};
-ghost use Rattle.cs_index.specs.Encoding.{varint, stream_of};
-ghost use Rattle.cs_index.specs.AscendingIds.{max_ids, next_after, AscendWithin};
-ghost use Rattle.cs_index.specs.IdStream.{ids_by_deltas, ids_in, IsMarked};
-ghost use Rattle.cs_index.specs.Prefixes.{IsPrefix};
-ghost use Rattle.cs_index.specs.ShortDeltas.{are_short, is_first, second_bytes};
+ghost use Rattle.cs_index.specs.Cited.{varint, stream_of, max_ids, next_after, AscendWithin, ids_by_deltas, ids_in, IsMarked, IsPrefix, are_short, is_first, second_bytes};
 
 use std::marker::Model;
 use std::simd::prelude::*;

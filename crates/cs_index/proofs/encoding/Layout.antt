@@ -107,28 +107,26 @@ entries_near start at limit (p ∷ ps) h less =
 
 -- ---- the sections after the prefix
 
-pub prefix_1_long : (paths names : List (List ℕ)) (ps : List PostingList) (bytes : List ℕ) →
-    bytes ≡ concat (map with_nul paths) → 16 + length bytes + 1 ≡ length (prefix_1 (sections_of paths names ps))
-prefix_1_long paths names ps bytes is =
+pub prefix_1_long : (paths names : List (List ℕ)) (ps : List PostingList) (len : ℕ) →
+    len ≡ length (concat (map with_nul paths)) → 16 + len + 1 ≡ length (prefix_1 (sections_of paths names ps))
+prefix_1_long paths names ps len is =
     let text : length (concat (map with_nul paths) ++ 0 ∷ []) ≡ length (concat (map with_nul paths)) + 1 = length_push
     (concat (map with_nul paths)) 0 in
     let whole : length (magic ++ strings_section paths) ≡ 16 + length (strings_section paths) = length-append magic
     (strings_section paths) in
-    let same = ap length is in
-    omega (arith, text, whole, same)
+    omega (arith, text, whole, is)
 
-pub prefix_2_long : (paths names : List (List ℕ)) (ps : List PostingList) (bytes more : List ℕ) →
-    bytes ≡ concat (map with_nul paths) → more ≡ concat (map with_nul names) →
-    16 + length bytes + 1 + length more + 1 ≡ length (prefix_2 (sections_of paths names ps))
-prefix_2_long paths names ps bytes more is also =
-    let first = prefix_1_long paths names ps bytes is in
+pub prefix_2_long : (paths names : List (List ℕ)) (ps : List PostingList) (len more : ℕ) →
+    len ≡ length (concat (map with_nul paths)) → more ≡ length (concat (map with_nul names)) →
+    16 + len + 1 + more + 1 ≡ length (prefix_2 (sections_of paths names ps))
+prefix_2_long paths names ps len more is also =
+    let first = prefix_1_long paths names ps len is in
     let text : length (concat (map with_nul names) ++ 0 ∷ []) ≡ length (concat (map with_nul names)) + 1 = length_push
     (concat (map with_nul names)) 0 in
     let whole : length (prefix_1 (sections_of paths names ps) ++ strings_section names) ≡ length
     (prefix_1 (sections_of paths names ps)) + length (strings_section names) = length-append
     (prefix_1 (sections_of paths names ps)) (strings_section names) in
-    let same = ap length also in
-    omega (arith, first, text, whole, same)
+    omega (arith, first, text, whole, also)
 
 pub third_is : (paths names : List (List ℕ)) (ps : List PostingList) (bytes third : List ℕ) →
     bytes ≡ prefix_of paths names ++ concat (map posting_list_bytes ps) → third ≡ bytes ++ (posting_list_bytes (closing_trigram, [])) →

@@ -2,12 +2,7 @@
 // at a time.
 ghost use Rattle.std.specs.Prelude.{◌≡◌, ◌≢◌, ◌≤◌, ◌<◌, ◌+◌, ◌++◌, [], ◌∷◌, ℕ, List, Option, length, IfSome, IfNone, true, false, ◌||◌, bytes_eq, count_by};
 ghost use Rattle.std.specs.List.{AllByRecursion};
-ghost use Rattle.cs_tree.specs.NamesAscending.{are_ascending};
-ghost use Rattle.cs_index.specs.ValidSections.{HasNoText};
-ghost use Rattle.cs_index.specs.SectionPieces.{IsNoSection, IsTextRun};
-ghost use Rattle.cs_index.specs.Encoding.{with_nul};
-ghost use Rattle.cs_index.specs.Opening.{number_at, trigram_at, is_names_section, is_section, texts_of};
-ghost use Rattle.cs_index.specs.Nuls.{AreTextsTo, IsPairAt, is_nul};
+ghost use Rattle.cs_index.specs.Cited.{are_ascending, HasNoText, IsNoSection, IsTextRun, with_nul, number_at, trigram_at, is_names_section, is_section, texts_of, AreTextsTo, IsPairAt, is_nul};
 
 use memchr::{memchr, memrchr};
 

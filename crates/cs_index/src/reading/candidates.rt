@@ -2,23 +2,7 @@
 // query's form is evaluated over windows of ids, so that each posting list is read once.
 ghost use Rattle.std.specs.Prelude.{◌≡◌, ◌<◌, ◌≤◌, ◌+◌, ◌-◌, ◌⊎◌, ◌^◌, ◌++◌, ℕ, List, Some, map, take, true, false, filter, length, slice_index_or, IfOk, IfErr, OnOk, ◌*◌, ◌||◌};
 ghost use Rattle.std.specs.List.{AllByRecursion, AllZip, range_with_len, list_any};
-ghost use Rattle.cs_tree.specs.KeepsStore.{KeepsStore};
-ghost use Rattle.cs_tree.specs.Store.{part_of};
-ghost use Rattle.cs_trigram.specs.Trigram.{has, Ascends};
-ghost use Rattle.cs_index.specs.Opening.{entries_in};
-ghost use Rattle.cs_index.specs.OpenedParts.{Parts};
-ghost use Rattle.cs_index.specs.PostingLists.{read_list};
-ghost use Rattle.cs_index.specs.Postings.{IsListFault};
-ghost use Rattle.cs_index.specs.Candidates.{candidates_of, AreCandidates};
-ghost use Rattle.cs_index.specs.AscendingIds.{max_ids};
-ghost use Rattle.cs_index.specs.Answerable.{is_answerable, mentions};
-ghost use Rattle.cs_index.specs.CandidatePages.{candidates_from, AreOnPage};
-ghost use Rattle.cs_index.specs.Form.{IsForm, number_matches};
-ghost use Rattle.cs_index.specs.Rows.{lists_are_whole, have_id, IsLeft, IsReadOn};
-ghost use Rattle.cs_index.specs.Stored.{StandsIn};
-ghost use Rattle.cs_index.specs.StoredOpening.{AreAscendingOffsets};
-ghost use Rattle.cs_index.specs.StoredEntries.{AreListed, entry_read, trigrams_listed, HasEntries};
-ghost use Rattle.cs_index.specs.StoredLists.{Holds, IsSection, ids_left};
+ghost use Rattle.cs_index.specs.Cited.{KeepsStore, part_of, has, Ascends, entries_in, Parts, read_list, IsListFault, candidates_of, AreCandidates, max_ids, is_answerable, mentions, candidates_from, AreOnPage, IsForm, number_matches, lists_are_whole, have_id, IsLeft, IsReadOn, StandsIn, AreAscendingOffsets, AreListed, entry_read, trigrams_listed, HasEntries, Holds, IsSection, ids_left};
 
 use crate::fault::IndexFault;
 use crate::reading::entries::{ENTRY_LEN, Entry, StoredEntries};

@@ -1,13 +1,7 @@
 // The name index and the list index, and the entries of a list index in a store, found by their
 // trigrams.
 ghost use Rattle.std.specs.Prelude.{◌≡◌, ◌==◌, ◌≤◌, ◌<◌, ◌+◌, ◌^◌, ◌++◌, [], ◌≢◌, ◌-◌, List, true, false, length, slice_index, IfSome, IfNone, IsTrue, ◌*◌, ◌/◌, ℕ, Some, option_map, slice_get, IfOk};
-ghost use Rattle.cs_index.specs.SectionPieces.{are_entries};
-ghost use Rattle.cs_index.specs.ValidSections.{has_starts};
-ghost use Rattle.cs_index.specs.Encoding.{ListEntry};
-ghost use Rattle.cs_index.specs.Opening.{entries_in, entry_at, trigram_at, is_list_index, is_section, texts_of, rises};
-ghost use Rattle.cs_tree.specs.KeepsStore.{KeepsStore};
-ghost use Rattle.cs_index.specs.Postings.{entry_of};
-ghost use Rattle.cs_index.specs.StoredEntries.{entry_read, HasEntries};
+ghost use Rattle.cs_index.specs.Cited.{are_entries, has_starts, ListEntry, entries_in, entry_at, trigram_at, is_list_index, is_section, texts_of, rises, KeepsStore, entry_of, entry_read, HasEntries};
 
 use crate::reading::bytes::{read_number, read_trigram};
 use cs_tree::{IoFault, Store, fill_at};

@@ -3,11 +3,9 @@
 // single one, is no node. This is hash consing in a table of fixed size: a slot keeps the last node
 // with its hash, so an equal node may be made anew.
 ghost use Rattle.std.specs.Prelude.{◌≡◌, ◌<◌, ◌^◌, ◌+◌, ℕ, Bool, List, length, map, slice_index_or, IfOk, OnOk, IfSome};
-ghost use Rattle.cs_trigram.specs.Trigram.{Ascends};
-ghost use Rattle.cs_trigram.specs.Query.{matches_set};
+ghost use Rattle.cs_index.specs.Cited.{Ascends, matches_set, IsForm, IsNumberOf, IsWithin, Exist, Grows, Gathers, joined, members_match, queries_match, matched, node_matches, number_matches, numbers};
 ghost use Rattle.cs_trigram.specs.declared.queries.Query.TheVariants.{Tri};
 ghost use Rattle.cs_index.specs.declared.reading.form.FormNode.{FormNode as FormNode'};
-ghost use Rattle.cs_index.specs.Form.{IsForm, IsNumberOf, IsWithin, Exist, Grows, Gathers, joined, members_match, queries_match, matched, node_matches, number_matches, numbers};
 
 use cs_trigram::Query;
 use std::alloc::{AllocError, Global};

@@ -1,18 +1,7 @@
 // An index that is read in place.
 ghost use Rattle.std.specs.Prelude.{◌≡◌, ◌==◌, ◌<◌, ℕ, List, Ok, Err, IsOk, IfOk, IfErr, length, slice_get, option_map};
-ghost use Rattle.cs_index.specs.Postings.{entry_of};
-ghost use Rattle.cs_tree.specs.NamesAscending.{are_ascending};
-ghost use Rattle.cs_index.specs.ValidSections.{AreValidSections};
+ghost use Rattle.cs_index.specs.Cited.{entry_of, are_ascending, AreValidSections, ListEntry, opening, read_sections, DecodesAs, Fails, ids_read, AreValidParts, entry_read, with_lists, IsOrderOf};
 ghost use Rattle.std.specs.Option.{option_copied, option_map_or};
-ghost use Rattle.cs_index.specs.Encoding.{ListEntry};
-ghost use Rattle.cs_index.specs.Opening.{opening, read_sections};
-ghost use Rattle.cs_index.specs.Decoding.{DecodesAs};
-ghost use Rattle.cs_index.specs.Failing.{Fails};
-ghost use Rattle.cs_index.specs.OpenedParts.{ids_read};
-ghost use Rattle.cs_index.specs.ValidParts.{AreValidParts};
-ghost use Rattle.cs_index.specs.StoredEntries.{entry_read};
-ghost use Rattle.cs_index.specs.StoredOpening.{with_lists};
-ghost use Rattle.cs_index.specs.Order.{IsOrderOf};
 
 use crate::fault::IndexFault;
 use crate::reading::bytes::{is_closed, names_run};

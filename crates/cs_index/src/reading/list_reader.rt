@@ -1,12 +1,6 @@
 // The posting lists of an index in a store, read one after another.
 ghost use Rattle.std.specs.Prelude.{◌≡◌, ◌<◌, ◌^◌, ◌+◌, ℕ, List, Some, length, option_map, slice_get, OnOk};
-ghost use Rattle.cs_tree.specs.KeepsStore.{KeepsStore};
-ghost use Rattle.cs_index.specs.AscendingIds.{max_ids};
-ghost use Rattle.cs_index.specs.Encoding.{ListEntry};
-ghost use Rattle.cs_index.specs.ListReading.{AreBytesOf, HasList, known_ids, list_in};
-ghost use Rattle.cs_index.specs.OpenedParts.{Parts};
-ghost use Rattle.cs_index.specs.StoredEntries.{entry_read};
-ghost use Rattle.cs_index.specs.Tables.{TablesIn};
+ghost use Rattle.cs_index.specs.Cited.{KeepsStore, max_ids, ListEntry, AreBytesOf, HasList, known_ids, list_in, Parts, entry_read, TablesIn};
 
 use crate::reading::entries::Entry;
 use crate::reading::postings::Postings;

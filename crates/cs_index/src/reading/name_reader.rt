@@ -1,15 +1,8 @@
 // The names of an index in a store, by their ids.
 ghost use Rattle.std.specs.Prelude.{◌≡◌, ◌≤◌, ◌<◌, ◌+◌, ◌-◌, ◌++◌, ◌^◌, ℕ, List, Some, drop, take, length, slice_get, IfSome, IfNone, IfOk};
 ghost use Rattle.std.specs.List.{AllByRecursion};
-ghost use Rattle.cs_tree.specs.KeepsStore.{KeepsStore};
-ghost use Rattle.cs_index.specs.OpenedParts.{Parts};
-ghost use Rattle.cs_index.specs.NameReading.{HasName, IsName, ReadsNames};
-ghost use Rattle.cs_index.specs.Stored.{StandsIn};
-ghost use Rattle.cs_index.specs.Windows.{HasText, IsPiece, StandsAt};
-ghost use Rattle.cs_index.specs.Encoding.{with_nul};
-ghost use Rattle.cs_index.specs.Opening.{number_at};
+ghost use Rattle.cs_index.specs.Cited.{KeepsStore, Parts, HasName, IsName, ReadsNames, StandsIn, HasText, IsPiece, StandsAt, with_nul, number_at, AreAscendingOffsets};
 ghost use Rattle.std.specs.Result.{IsOkAnd};
-ghost use Rattle.cs_index.specs.StoredOpening.{AreAscendingOffsets};
 
 use crate::fault::IndexFault;
 use crate::reading::bytes::read_number;

@@ -2,11 +2,7 @@
 ghost use Rattle.std.specs.Prelude.{◌≡◌, length, slice_get, IfOk, List, ℕ, option_map, map, ◌||◌, ◌∷◌, [], true};
 ghost use Rattle.std.specs.Option.{option_copied};
 ghost use Rattle.std.specs.Iterator.{YieldsFirstRef, item_count};
-ghost use Rattle.cs_tree.specs.NamesAscending.{are_ascending};
-ghost use Rattle.cs_index.specs.Opening.{texts_of, is_names_section};
-ghost use Rattle.cs_index.specs.ValidSections.{IsNameTable};
-ghost use Rattle.cs_index.specs.Order.{IsOrderOf, with_ids, name_in, id_in};
-ghost use Rattle.cs_index.specs.BorrowedNames.{borrowed_names};
+ghost use Rattle.cs_index.specs.Cited.{are_ascending, texts_of, is_names_section, IsNameTable, IsOrderOf, with_ids, name_in, id_in, borrowed_names};
 
 use crate::reading::bytes::{ascend, first_text, read_number};
 use std::alloc::{AllocError, Global};

@@ -1,7 +1,6 @@
 // The old index of a merge: an index in a store, whose tables are in memory.
 ghost use Rattle.std.specs.Prelude.{◌≡◌, ◌≤◌, ◌<◌, IfOk, IfSome};
-ghost use Rattle.cs_tree.specs.KeepsStore.{KeepsStore};
-ghost use Rattle.cs_index.specs.Tables.{OpensAsTables};
+ghost use Rattle.cs_index.specs.Cited.{KeepsStore, OpensAsTables};
 
 use crate::fault::IndexFault;
 use crate::reading::index::test_sections;

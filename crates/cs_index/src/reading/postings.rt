@@ -2,10 +2,7 @@
 ghost use Rattle.std.specs.Prelude.{◌≡◌, ◌<◌, ◌+◌, ◌++◌, ◌≤◌, ◌^◌, Some, None, drop, length, IfSome, MatchOption};
 ghost use Rattle.std.specs.List.{AllByRecursion};
 ghost use Rattle.std.specs.Iterator.{YieldsFirst, item_count};
-ghost use Rattle.cs_index.specs.AscendingIds.{ids_onward, max_ids};
-ghost use Rattle.cs_index.specs.Postings.{ids_given};
-ghost use Rattle.cs_index.specs.PostingLists.{damage, read_ids, varint_at, read_varint};
-ghost use Rattle.cs_index.specs.ListDecoding.{IsStep};
+ghost use Rattle.cs_index.specs.Cited.{ids_onward, max_ids, ids_given, damage, read_ids, varint_at, read_varint, IsStep};
 
 use crate::encoded_run::EncodedRun;
 use crate::fault::IndexFault;

@@ -3,10 +3,7 @@
 // between them.
 ghost use Rattle.std.specs.Prelude.{◌≡◌, ◌<◌, ◌≤◌, ◌+◌, ◌-◌, ◌⊎◌, ◌&&◌, ◌||◌, ℕ, Bool, false, true, Some, List, [], ◌∷◌, length, map, slice_index_or, IfOk, OnOk, IfSome};
 ghost use Rattle.std.specs.List.{AllByRecursion, AllZip};
-ghost use Rattle.cs_tree.specs.KeepsStore.{KeepsStore};
-ghost use Rattle.cs_index.specs.Form.{matched, members_match, node_matches, IsForm, IsRequired};
-ghost use Rattle.cs_index.specs.Rows.{column, have_id, HaveWidth, IsLeft, IsReadOn, IsRowOf, LacksId};
-ghost use Rattle.cs_trigram.specs.Trigram.{has};
+ghost use Rattle.cs_index.specs.Cited.{KeepsStore, matched, members_match, node_matches, IsForm, IsRequired, column, have_id, HaveWidth, IsLeft, IsReadOn, IsRowOf, LacksId, has};
 
 use crate::reading::form::{FIRST_LIST, Form, FormNode, members_of};
 use crate::reading::stored_list::StoredList;

@@ -1,11 +1,6 @@
 // The sections of an index: their offsets in a store, and slices of the bytes in memory.
 ghost use Rattle.std.specs.Prelude.{◌≡◌, ◌+◌, ◌-◌, ◌≤◌, ◌<◌, ◌^◌, List, ℕ, length, IfOk, IfErr, IfSome, Err, IsTrue, Ok, MatchResult};
-ghost use Rattle.cs_tree.specs.KeepsStore.{KeepsStore};
-ghost use Rattle.cs_tree.specs.ByteList.{AreBytes};
-ghost use Rattle.cs_tree.specs.Store.{part_of};
-ghost use Rattle.cs_index.specs.Opening.{are_section_offsets, split_of};
-ghost use Rattle.cs_index.specs.StoredOpening.{AreDisorderedOffsets, AreTrailerOffsets, AreAscendingOffsets, IsSplitAt, is_tail};
-ghost use Rattle.cs_index.specs.SectionSlices.{AreSlicesOf, borrowed_sections};
+ghost use Rattle.cs_index.specs.Cited.{KeepsStore, AreBytes, part_of, are_section_offsets, split_of, AreDisorderedOffsets, AreTrailerOffsets, AreAscendingOffsets, IsSplitAt, is_tail, AreSlicesOf, borrowed_sections};
 
 use crate::fault::IndexFault;
 use crate::format::{MAGIC, TRAILER_LEN, TRAILER_MAGIC};

@@ -1,13 +1,6 @@
 // An index in a store. It is tested in pieces when it is opened, and read by position.
 ghost use Rattle.std.specs.Prelude.{◌≡◌, ◌≤◌, ◌<◌, ◌^◌, length, Ok, IfOk, IfSome, List, ℕ};
-ghost use Rattle.cs_tree.specs.KeepsStore.{KeepsStore};
-ghost use Rattle.cs_tree.specs.ByteList.{AreBytes};
-ghost use Rattle.cs_index.specs.OpenedParts.{Parts};
-ghost use Rattle.cs_index.specs.Opening.{split_of};
-ghost use Rattle.cs_index.specs.StoredOpening.{AreAscendingOffsets};
-ghost use Rattle.cs_index.specs.Stored.{DecodesOrFails, StandsIn, sections_at};
-ghost use Rattle.cs_index.specs.Tables.{OpensAs};
-ghost use Rattle.cs_index.specs.NameReading.{ReadsNames};
+ghost use Rattle.cs_index.specs.Cited.{KeepsStore, AreBytes, Parts, split_of, AreAscendingOffsets, DecodesOrFails, StandsIn, sections_at, OpensAs, ReadsNames};
 
 use crate::fault::IndexFault;
 use crate::reading::name_reader::NameReader;

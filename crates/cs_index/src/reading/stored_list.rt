@@ -1,14 +1,7 @@
 // Posting lists of a store, decoded id by id from pieces of its bytes (Go: `postReader` in
 // index/read.go).
 ghost use Rattle.std.specs.Prelude.{◌≡◌, ◌≤◌, ◌<◌, ◌^◌, ◌+◌, ℕ, Bool, true, List, [], Some, length, take, IfSome, IfNone, IfOk, OnOk, bytes_eq};
-ghost use Rattle.cs_tree.specs.KeepsStore.{KeepsStore};
-ghost use Rattle.cs_tree.specs.Store.{part_of};
-ghost use Rattle.cs_index.specs.Encoding.{three_bytes};
-ghost use Rattle.cs_index.specs.PostingLists.{Ids, read_list};
-ghost use Rattle.cs_index.specs.AscendingIds.{BeginsFrom};
-ghost use Rattle.cs_index.specs.StoredEntries.{entry_read};
-ghost use Rattle.cs_index.specs.Rows.{RowSoFar};
-ghost use Rattle.cs_index.specs.StoredLists.{GivesBelow, Holds, IsReady, SkipsBelow, IsSection, ids_left, with_piece};
+ghost use Rattle.cs_index.specs.Cited.{KeepsStore, part_of, three_bytes, Ids, read_list, BeginsFrom, entry_read, RowSoFar, GivesBelow, Holds, IsReady, SkipsBelow, IsSection, ids_left, with_piece};
 
 use crate::encoded_run::{extent, marked_extent};
 use crate::reading::entries::Entry;

@@ -1,10 +1,6 @@
 // The sections of an index in a store, which are tested piece by piece.
 ghost use Rattle.std.specs.Prelude.{◌≡◌, ◌≤◌, ◌<◌, ◌^◌, ◌+◌, ◌*◌, ◌-◌, ◌∷◌, ◌++◌, [], ℕ, List, Some, length, IfOk, IfSome, IfNone, true, false};
-ghost use Rattle.cs_tree.specs.KeepsStore.{KeepsStore};
-ghost use Rattle.cs_tree.specs.Store.{part_of};
-ghost use Rattle.cs_index.specs.Opening.{is_list_index, is_section};
-ghost use Rattle.cs_index.specs.SectionPieces.{AreNamesTested, ArePathsRead};
-ghost use Rattle.cs_index.specs.StoredOpening.{AreAscendingOffsets};
+ghost use Rattle.cs_index.specs.Cited.{KeepsStore, part_of, is_list_index, is_section, AreNamesTested, ArePathsRead, AreAscendingOffsets};
 
 use crate::reading::bytes::{first_texts, is_closed, is_ending};
 use crate::reading::entries::{ENTRY_LEN, has_offsets, test_entries};

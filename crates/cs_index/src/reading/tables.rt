@@ -1,14 +1,6 @@
 // The tables of an index, which are in memory. Its posting lists may be in a store.
 ghost use Rattle.std.specs.Prelude.{◌≡◌, ◌≤◌, ◌<◌, ◌+◌, ◌-◌, ℕ, List, Ok, length, option_map, slice_get, IfSome, IsOk};
-ghost use Rattle.cs_index.specs.AscendingIds.{max_ids};
-ghost use Rattle.cs_index.specs.Encoding.{ListEntry};
-ghost use Rattle.cs_index.specs.OpenedParts.{Parts};
-ghost use Rattle.cs_index.specs.Postings.{entry_of};
-ghost use Rattle.cs_index.specs.Opening.{opening};
-ghost use Rattle.cs_index.specs.StoredEntries.{entry_read};
-ghost use Rattle.cs_index.specs.StoredOpening.{AreAscendingOffsets};
-ghost use Rattle.cs_index.specs.Tables.{AreValidTables, TablesIn, lists_room};
-ghost use Rattle.cs_index.specs.ValidParts.{AreValidParts};
+ghost use Rattle.cs_index.specs.Cited.{max_ids, ListEntry, Parts, entry_of, opening, entry_read, AreAscendingOffsets, AreValidTables, TablesIn, lists_room, AreValidParts};
 
 use crate::reading::entries::{ENTRY_LEN, Entry, entry_with, nth_entry};
 use crate::reading::name_table::{NameTable, Texts};

@@ -1,9 +1,6 @@
 // The bytes of a store that are in memory, from an offset on.
 ghost use Rattle.std.specs.Prelude.{◌≡◌, ◌≤◌, ◌<◌, ◌^◌, ◌+◌, ◌-◌, ℕ, List, [], true, false, Some, drop, length, take, IfOk, OnOk};
-ghost use Rattle.cs_tree.specs.KeepsStore.{KeepsStore};
-ghost use Rattle.cs_tree.specs.Store.{part_of};
-ghost use Rattle.cs_index.specs.Windows.{HasFrom, IsPiece, StandAt};
-ghost use Rattle.cs_index.specs.SectionPieces.{IsWindow};
+ghost use Rattle.cs_index.specs.Cited.{KeepsStore, part_of, HasFrom, IsPiece, StandAt, IsWindow};
 
 use cs_tree::{IoFault, Store, fill_at};
 use std::alloc::Global;

@@ -1,12 +1,6 @@
 // The index builder: postings are distributed to buckets, and the lists are written at the end.
 ghost use Rattle.std.specs.Prelude.{◌≡◌, ◌≢◌, ◌<◌, ◌≤◌, ◌-◌, ◌^◌, ◌++◌, ◌⊎◌, ◌↔◌, [], true, false, nat_lt, length, map, string_bytes, Err, IfOk, IfErr, OnOk, OnErr};
-ghost use Rattle.cs_trigram.specs.Trigram.{set_of_numbers};
-ghost use Rattle.cs_trigram.specs.Scans.{AreDistinctTrigrams};
-ghost use Rattle.cs_index.specs.Encoding.{encoding, encoding_of, names_of};
-ghost use Rattle.cs_index.specs.Indexable.{IsIndexable};
-ghost use Rattle.cs_index.specs.LeastLength.{least_length};
-ghost use Rattle.cs_index.specs.Built.{with_entry, IsAlwaysLonger, are_paths, file_map, is_above, is_storable, IsBuilt, IsFull, IsOutOfOrder, path_set};
-ghost use Rattle.cs_index.specs.MaxNames.{max_names};
+ghost use Rattle.cs_index.specs.Cited.{set_of_numbers, AreDistinctTrigrams, encoding, encoding_of, names_of, IsIndexable, least_length, with_entry, IsAlwaysLonger, are_paths, file_map, is_above, is_storable, IsBuilt, IsFull, IsOutOfOrder, path_set, max_names};
 
 use crate::fault::BuildFault;
 use crate::writing::buckets::{Bucket, empty_buckets, pop_file, push_file, write_buckets};

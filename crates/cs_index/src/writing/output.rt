@@ -1,10 +1,7 @@
 // The bytes of an index, section by section, on their way to an output.
 ghost use Rattle.std.specs.Prelude.{◌≡◌, ◌<◌, ◌≤◌, ◌⊎◌, ◌^◌, ◌++◌, ◌∷◌, [], List, ℕ, length, map, flat_map, Err, IfOk, IfErr, OnOk, OnErr, ◌+◌};
 ghost use Rattle.std.specs.List.{AllByRecursion, concat};
-ghost use Rattle.cs_index.specs.Encoding.{entry_bytes, four_bytes, layout, list_entries, posting_list_bytes, sections_of, trailer_magic, ListEntry, varint};
-ghost use Rattle.cs_index.specs.SectionsInvariant.{entry_from, lists_at};
-ghost use Rattle.cs_index.specs.Sending.{bytes_in, all_sent, with_bytes};
-ghost use Rattle.cs_index.specs.Written.{prefix_of};
+ghost use Rattle.cs_index.specs.Cited.{entry_bytes, four_bytes, layout, list_entries, posting_list_bytes, sections_of, trailer_magic, ListEntry, varint, entry_from, lists_at, bytes_in, all_sent, with_bytes, prefix_of};
 
 use crate::fault::BuildFault;
 use crate::format::{MAGIC, TRAILER_LEN, TRAILER_MAGIC};
@@ -152,8 +149,8 @@ pub(crate) fn write_prefix(
 {
     let mut out = Vec::new(alloc);
     out.extend_from_slice(MAGIC)?;
-    paths.write(&mut out)?;
-    names.write(&mut out)?;
+    paths.write(alloc, &mut out)?;
+    names.write(alloc, &mut out)?;
     Ok(out)
 }
 
@@ -210,8 +207,8 @@ fn write_tables(
         (λ fault. (fault ≡ BuildFault.TooLarge) ⊎ (fault ≡ BuildFault.Memory)) }
 {
     let start = out.len();
-    let names_at = MAGIC.len() + paths.bytes().len() + 1;
-    let lists_start = names_at + names.bytes().len() + 1;
+    let names_at = MAGIC.len() + paths.bytes_len() + 1;
+    let lists_start = names_at + names.bytes_len() + 1;
     let mut tables = Vec::new(alloc);
     tables.extend_from_slice(&[0xff, 0xff, 0xff, 0])?;
     let name_index_at = start + tables.len();

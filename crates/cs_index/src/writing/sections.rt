@@ -1,16 +1,7 @@
 // The section writer: the one layer that encodes an index.
 ghost use Rattle.std.specs.Prelude.{◌≡◌, ◌≢◌, ◌<◌, ◌≤◌, ◌+◌, ◌^◌, ◌++◌, ◌⊎◌, ◌↔◌, [], ◌∷◌, List, ℕ, true, false, length, map, string_bytes, None, Some, Err, IfOk, IfErr, OnOk, OnErr};
-ghost use Rattle.cs_trigram.specs.Trigram.{closing_trigram};
-ghost use Rattle.cs_index.specs.IdStream.{ids_in, IsStream};
-ghost use Rattle.cs_index.specs.AscendingIds.{next_after, ids_onward, max_ids};
+ghost use Rattle.cs_index.specs.Cited.{closing_trigram, ids_in, IsStream, next_after, ids_onward, max_ids, encoding_of, posting_list_bytes, IsString, IsIndexable, are_paths, is_above, is_storable, entries_written, last_ids, with_written_name, with_last_id, with_last_ids, with_list, with_sent, prefix_of, AllBelow, IsSentEarly, bytes_in, with_bytes, IsSentOn, first_of, with_posting, AreFirstIds, IsWritten};
 ghost use Rattle.std.specs.List.{AllByRecursion, concat};
-ghost use Rattle.cs_index.specs.Encoding.{encoding_of, posting_list_bytes, IsString};
-ghost use Rattle.cs_index.specs.Indexable.{IsIndexable};
-ghost use Rattle.cs_index.specs.Built.{are_paths, is_above, is_storable};
-ghost use Rattle.cs_index.specs.Written.{entries_written, last_ids, with_written_name, with_last_id, with_last_ids, with_list, with_sent, prefix_of, AllBelow, IsSentEarly};
-ghost use Rattle.cs_index.specs.Sending.{bytes_in, with_bytes, IsSentOn};
-ghost use Rattle.cs_index.specs.SectionsInvariant.{first_of};
-ghost use Rattle.cs_index.specs.WrittenLists.{with_posting, AreFirstIds, IsWritten};
 
 use crate::encoded_run::EncodedRun;
 use crate::fault::BuildFault;

@@ -5,32 +5,50 @@ ghost use Rattle.std.specs.Option.{option_copied};
 ghost use Rattle.std.specs.List.{AllByRecursion, concat, list_all};
 ghost use Rattle.std.specs.declared.string.String.{String};
 ghost use Rattle.std.specs.declared.alloc.Global.{Global};
-ghost use Rattle.cs_index.specs.Encoding.{strings_section, name_offsets, with_nul, four_bytes, IsString, entry_bytes, varint, varint_within};
-ghost use Rattle.cs_index.specs.Built.{are_paths, is_above, is_storable};
+ghost use Rattle.cs_index.specs.Cited.{strings_section, name_offsets, with_nul, four_bytes, IsString, entry_bytes, varint, varint_within, are_paths, is_above, is_storable, are_ascending};
 ghost use Rattle.cs_tree.specs.Cover.{is_alone as is_alone'};
-ghost use Rattle.cs_tree.specs.NamesAscending.{are_ascending};
 
 use cs_tree::is_alone;
 use std::alloc::{AllocError, Global};
 use std::marker::Model;
+use std::mem;
 
-/// NUL-terminated strings and their offsets.
+/// So many bytes are compared at once.
+const STEP: usize = 16;
+
+/// The maximum number of bytes of strings, so that no sum of their lengths wraps.
+const MAX_LEN: usize = 1 << 60;
+
+/// A string in incremental encoding: the number of bytes that it shares with the string before it,
+/// and that of its other bytes.
+#[derive(Clone, Copy, Drop)]
+pub(crate) struct StringCode {
+    shared: u32,
+    rest: u32,
+}
+
+/// Strings in incremental encoding: a name mostly begins as the one before it, so long names take
+/// little memory. `rests` has the bytes of each that the string before it does not share, `last` is
+/// the last string, and `len` the length of all with a NUL each. `spare` is memory for the next
+/// `last`.
 #[derive(Drop)]
 pub(crate) struct Strings {
-    bytes: Vec<u8>,
-    starts: Vec<usize>,
+    codes: Vec<StringCode>,
+    rests: Vec<u8>,
+    last: Vec<u8>,
+    spare: Vec<u8>,
+    len: usize,
 }
 
 impl Model for Strings {
-    ghost use Rattle.std.specs.Prelude.{List, ℕ};
-    ghost use Rattle.cs_index.specs.Strings.{texts_in};
-    ghost use Rattle.cs_index.specs.StringStarts.{AreStringStarts};
+    ghost use Rattle.std.specs.Prelude.{List, ℕ, []};
+    ghost use Rattle.cs_index.specs.StringCodes.{texts_from, IsCoded};
 
     ghost Value = { List (List ℕ) };
 
-    ghost view = { λ s. texts_in s.bytes.items };
+    ghost view = { λ s. texts_from [] s.codes.items s.rests.items };
 
-    ghost invariant = { λ s. AreStringStarts s.bytes.items s.starts.items };
+    ghost invariant = { λ s. IsCoded s.codes.items s.rests.items s.last.items s.len };
 }
 
 impl Strings {
@@ -38,22 +56,26 @@ impl Strings {
         ensures { result ≡ [] }
     {
         Strings {
-            bytes: Vec::new(alloc),
-            starts: Vec::new(alloc),
+            codes: Vec::new(alloc),
+            rests: Vec::new(alloc),
+            last: Vec::new(alloc),
+            spare: Vec::new(alloc),
+            len: 0,
         }
     }
 
     pub(crate) fn len(&self) -> usize
         ensures { result ≡ length self.now }
     {
-        self.starts.len()
+        self.codes.len()
     }
 
-    /// The bytes of the strings, each followed by a NUL.
-    pub(crate) fn bytes(&self) -> &[u8]
-        ensures { result.now ≡ concat (map with_nul self.now) }
+    /// The number of bytes of the strings, each followed by a NUL.
+    pub(crate) fn bytes_len(&self) -> usize
+        ensures value { result ≡ length (concat (map with_nul self.now)) }
+        ensures within { result ≤ 2 ^ 60 }
     {
-        &self.bytes
+        self.len
     }
 
     /// Whether a text is greater than the last string.
@@ -67,10 +89,19 @@ impl Strings {
     }
 
     /// Appends the strings and a final NUL.
-    pub(crate) fn write(&self, out: &mut Vec<u8>) -> Result<(), AllocError>
+    pub(crate) fn write(&self, alloc: Global, out: &mut Vec<u8>) -> Result<(), AllocError>
         ensures { OnOk result (out.new.items ≡ out.old.items ++ strings_section self.now) }
     {
-        out.extend_from_slice(&self.bytes)?;
+        let mut text = Vec::new(alloc);
+        let mut at = 0;
+        'strings: for code in &self.codes {
+            let end = at + code.rest as usize;
+            text.truncate(code.shared as usize);
+            text.extend_from_slice(&self.rests[at..end])?;
+            out.extend_from_slice(&text)?;
+            out.push(0)?;
+            at = end;
+        }
         out.push(0)?;
         Ok(())
     }
@@ -81,16 +112,22 @@ impl Strings {
         ensures { OnOk result (out.new.items ≡ out.old.items ++
             (name_offsets self.now ++ four_bytes (length (concat (map with_nul self.now))))) }
     {
-        write_numbers(out, &self.starts)?;
-        write_number(out, self.bytes.len() as u32)
+        let mut start = 0;
+        'strings: for code in &self.codes {
+            write_number(out, start)?;
+            start += code.shared + code.rest + 1;
+        }
+        write_number(out, start)
     }
 
     /// The last string.
     fn last(&self) -> Option<&[u8]>
         ensures { option_copied result ≡ slice_get self.now (length self.now - 1) }
     {
-        let start = *self.starts.last()?;
-        Some(text_from(&self.bytes, start))
+        if self.codes.is_empty() {
+            return None;
+        }
+        Some(&self.last)
     }
 
     /// Appends a string. On error nothing changes.
@@ -100,14 +137,39 @@ impl Strings {
         ensures err { OnErr result (self.new ≡ self.old) }
         ensures each { OnOk result (IsString text.now) }
     {
-        self.starts.reserve(1)?;
-        self.bytes.reserve(text.len() + 1)?;
-        let start = self.bytes.len();
-        self.bytes.extend_from_slice(text.as_bytes())?;
-        self.bytes.push_reserved(0);
-        self.starts.push_reserved(start);
+        let text = text.as_bytes();
+        if text.len() > u32::MAX as usize || self.len + text.len() >= MAX_LEN {
+            return Err(AllocError);
+        }
+        let shared = shared_len(&self.last, text);
+        self.codes.reserve(1)?;
+        self.spare.clear();
+        self.spare.extend_from_slice(text)?;
+        self.rests.extend_from_slice(&text[shared..])?;
+        mem::swap(&mut self.last, &mut self.spare);
+        self.codes.push_reserved(StringCode {
+            shared: shared as u32,
+            rest: (text.len() - shared) as u32,
+        });
+        self.len += text.len() + 1;
         Ok(())
     }
+}
+
+/// A number of bytes with which both texts begin.
+fn shared_len(a: &[u8], b: &[u8]) -> usize
+    ensures same { take result a.now ≡ take result b.now }
+    ensures within { result ≤ length a.now }
+    ensures bound { result ≤ length b.now }
+{
+    let mut len = 0;
+    'steps: while a.len() - len >= STEP && b.len() - len >= STEP {
+        if a[len..len + STEP] != b[len..len + STEP] {
+            return len;
+        }
+        len += STEP;
+    }
+    len
 }
 
 /// The paths as a sequence of strings.
@@ -198,14 +260,6 @@ pub(crate) fn are_index_paths(paths: &[String]) -> bool
         return false;
     }
     none_covers_another(paths)
-}
-
-/// The bytes from `start` to the final NUL.
-fn text_from(bytes: &[u8], start: usize) -> &[u8]
-    requires { start < length bytes.now }
-    ensures { result.now ≡ take (length bytes.now - 1 - start) (drop start bytes.now) }
-{
-    &bytes[start..bytes.len() - 1]
 }
 
 /// Appends a number in four bytes.

@@ -1,6 +1,6 @@
 -- The names that most proofs cite, passed on from one place. Declares nothing.
 pub use Rattle.cs_index.proofs.decoding.DecodingIsUnique.{decoding_is_unique, names_tail}
-pub use Rattle.cs_index.proofs.writer.BuilderAdd.{all_push, ascends_push, names_entries}
+pub use Rattle.cs_index.proofs.writer.BuilderAdd.{ascends_push, names_entries}
 pub use Rattle.cs_index.specs.AscendingIds.{AscendWithin, BeginsFrom, ids_onward, max_ids, next_after}
 pub use Rattle.cs_index.specs.Built.{are_paths, are_reduced, is_above, is_before, is_storable}
 pub use Rattle.cs_index.specs.Encoding.{Entry, Files, IsString, ListEntry, PostingList, encoding_of, layout, names_of, posting_list_bytes, postings_of, sections_of, three_bytes}
@@ -14,8 +14,8 @@ pub use Rattle.cs_index.specs.ValidParts.{AreValidParts}
 pub use Rattle.cs_index.specs.Written.{AllBelow, Written, entries_written, ids_of, last_ids, with_id, with_last_id, with_last_ids, with_sent, with_written_id, with_written_name}
 pub use Rattle.cs_index.specs.declared.fault.IndexFault.{IndexFault}
 pub use Rattle.cs_merge.specs.Content.{DecodesAsContent, EachFile, HasContent, IsContent, LieUnder, Opens}
-pub use Rattle.cs_merge.specs.IdMap.{AreByRank, AreDisjoint, AreDropped, AreIdMaps, AreMapped, AreMappedLists, AreMergedNames, AreNamesSoFar, AreNewIdsFrom, AreRunEnds, AreScattered, AreUnique, IsImageOfRun, IsIncreasing, IsInjective, IsMapped, IsMergingNames, IsOfEither, IsRun, NewIds, StayBelow, kept, new, new_id, new_ids_of}
-pub use Rattle.cs_merge.specs.ListMerge.{AreDistinctIds, AreGathered, AreLeft, AreMergedLists, BeginFrom, EndsWith, IdRun, IsFollowed, IsMappedPostings, IsReadAhead, IsBelow, IsMergedList, IsRunOf, IsWithinRun, IsWrittenBelow, list_ids, list_trigram, lower_of, position_after, run_ids, runs_ids, without_number}
+pub use Rattle.cs_merge.specs.IdMap.{AreByRank, AreDisjoint, AreDropped, AreIdMaps, AreMapped, AreMappedLists, AreMergedNames, AreNamesSoFar, AreRunEnds, AreScattered, IsIncreasing, IsInjective, IsMapped, IsMergingNames, IsOfEither, IsRun, NewIds, StayBelow, kept, new, new_id, new_ids_of}
+pub use Rattle.cs_merge.specs.ListMerge.{AreDistinctIds, AreLeft, AreMergedLists, BeginFrom, EndsWith, IsFollowed, IsMappedPostings, IsReadAhead, IsBelow, IsMergedList, IsRunOf, IsWrittenBelow, list_ids, list_trigram, lower_of, position_after, without_number}
 pub use Rattle.cs_merge.specs.OldLists.{AreAllMerged, AreRead, IsMergingLists, IsStored, known_parts, old_ids}
 pub use Rattle.cs_merge.specs.ListsFault.{AreTooLong, IsListsFault, are_whole_from, rest_fault}
 pub use Rattle.cs_merge.specs.Merge.{merge_files, merge_paths}
@@ -38,12 +38,12 @@ pub use Rattle.cs_trigram.specs.TrigramSets.{AreDistinct, IsTrigramSet}
 pub use Rattle.std.proofs.Math.Bool.{or-true}
 pub use Rattle.std.proofs.lemmas.Bool.{and_cases, and_from, and_left, and_parts, and_right, cases_Bool, cases_eq, cases_lt, eq-eqb, eqb-true, false_from_ne_true, lt-ltb, ltb-false, ltb-true, ne_eqb, not-true, or_cases, or_left, or_right, true≢false}
 pub use Rattle.std.proofs.lemmas.List.{append-nil, drop_all, drop_more, length-map, length_push, take-append-drop}
-pub use Rattle.std.proofs.lemmas.List.Sorted.{All-permutation, Contains-permutation, IsNonDecreasingBy-from_sort_by, length_permutation, sum_by-IsPermutation}
+pub use Rattle.std.proofs.lemmas.List.Sorted.{All-permutation, Contains-permutation, length_permutation}
 pub use Rattle.std.proofs.lemmas.Option.{none-some, same_Some, slice_get-get_or, slice_get_read, slice_get_within}
 pub use Rattle.std.specs.Cmp.Lexicographic.{bytes_decides, nat_list_cmp_total}
 pub use Rattle.std.specs.FinMap.Entries.{below_all, find, is_sorted}
-pub use Rattle.std.specs.List.{All, AllByRecursion, Contains, concat, cons_option, list_all, list_any, range_with_len, sum_by, zip}
-pub use Rattle.std.specs.Option.{option_copied, option_eq, option_map_or, option_or}
+pub use Rattle.std.specs.List.{All, AllByRecursion, Contains, concat, cons_option, list_all, list_any, range_with_len, zip}
+pub use Rattle.std.specs.Option.{option_copied, option_map_or, option_or}
 pub use Rattle.std.specs.Ordering.{eq_by_cmp, is_eq, is_lt, ordering_reverse}
 pub use Rattle.std.specs.declared.cmp.Ordering.{Ordering}
 pub use Rattle.std.specs.declared.cmp.Ordering.TheVariants.{Equal, Greater, Less}

@@ -1,59 +1,13 @@
--- New ids of a list are distinct, and stay so when they are sorted.
-use Rattle.std.proofs.Common.{◌≡◌, ℕ, ◌+◌, ◌<◌, ◌≤◌, true, false, cond, ◌||◌, eqb, ltb, List, [], ◌∷◌, ◌++◌, refl, sym, ap, ◌∙◌, inl, inr, Option, Some, None, arith}
-use Rattle.cs_merge.proofs.Common.{true≢false, cases_Bool, eqb-true, eq-eqb, ne_eqb, lt-ltb, or_cases, cons_option, sum_by, has, Written, AscendWithin, NewIds, new_id, new_ids_of, AreDisjoint, IsInjective, StayBelow, AreDistinctIds, IsMergedList, AreDistinct, or-true}
-use Rattle.std.proofs.lemmas.List.Sums.{sum_by-cons}
+-- New ids of a list are distinct, so that they ascend once they are sorted.
+use Rattle.std.proofs.Common.{◌≡◌, ℕ, suc, ◌+◌, ◌<◌, ◌≤◌, true, false, ◌||◌, eqb, List, [], ◌∷◌, ◌++◌, length, refl, sym, ap, subst, ◌∙◌, inl, inr, Option, Some, None, arith}
+use Rattle.cs_merge.proofs.Common.{true≢false, cases_eq, eq-eqb, ne_eqb, or_cases, or_left, or_right, cons_option, has, set_of_numbers, Ascends, Above, ascends_head, ascends_set, ascends_tail, has-set_of_numbers, Written, AscendWithin, BeginsFrom, NewIds, new_id, new_ids_of, AreDisjoint, IsInjective, StayBelow, AreDistinctIds, IsMergedList, AreDistinct, length_permutation, or-true}
+use Rattle.std.proofs.lemmas.List.Sorted.{IsNonDecreasingBy-from_sort, list_any-IsPermutation}
+use Rattle.std.specs.List.Sorted.{IsNonDecreasing, IsPermutation, IsSorted}
+use Rattle.std.specs.Ordering.{nat_cmp}
+use Rattle.cs_trigram.proofs.SetLemmas.{ascends_same, distinct-length, length-distinct}
 use Rattle.cs_merge.proofs.IdMergeLemmas.{has_both}
 use Rattle.cs_merge.proofs.IdMapLemmas.{has_no_mapped, has_mapped, mapped_from}
 use Rattle.std.proofs.Math.Bool.{or-false}
-
--- ---- how often a number occurs
-
-abbrev pub one : ℕ → ℕ → ℕ
-one n m = cond (eqb m n) 1 0
-
-abbrev pub many : ℕ → List ℕ → ℕ
-many n ns = sum_by (one n) ns
-
-many-more : (n m : ℕ) (ns : List ℕ) → many n (m ∷ ns) ≡ one n m + many n ns
-many-more n m ns = sum_by-cons (one n) m ns
-
-pub has_many : (ns : List ℕ) (n : ℕ) → has ns n ≡ ltb 0 (many n ns)
-has_many [] n = refl
-has_many (m ∷ ns) n =
-    elim (cases_Bool (eqb m n)) [
-      | inl is ↦
-          let here : one n m ≡ 1 = ap (λ b. cond b 1 0) is in
-          ap (λ b. b || has ns n) is ∙ sym (lt-ltb 0 (many n (m ∷ ns)) (omega (arith, many-more n m ns, here)))
-      | inr differs ↦
-          let away : one n m ≡ 0 = ap (λ b. cond b 1 0) differs in
-          let rest : many n (m ∷ ns) ≡ many n ns = omega (arith, many-more n m ns, away) in
-          ap (λ b. b || has ns n) differs ∙ has_many ns n ∙ ap (ltb 0) (sym rest)
-    ]
-
-none_many : (ns : List ℕ) (n : ℕ) → has ns n ≡ false → many n ns ≡ 0
-none_many [] n h = refl
-none_many (m ∷ ns) n h =
-    elim (cases_Bool (eqb m n)) [
-      | inl is ↦ absurd (true≢false (sym (ap (λ b. b || has ns n) is) ∙ h))
-      | inr differs ↦
-          let away : one n m ≡ 0 = ap (λ b. cond b 1 0) differs in
-          let rest = none_many ns n (sym (ap (λ b. b || has ns n) differs) ∙ h) in
-          omega (arith, many-more n m ns, away, rest)
-    ]
-
-pub once_few : (ns : List ℕ) (n : ℕ) → AreDistinct ns → many n ns ≤ 1
-once_few [] n once = omega arith
-once_few (m ∷ ns) n once =
-    elim (cases_Bool (eqb m n)) [
-      | inl is ↦
-          let here : one n m ≡ 1 = ap (λ b. cond b 1 0) is in
-          let rest = none_many ns n (ap (has ns) (sym (eqb-true m n is)) ∙ once.0) in
-          omega (arith, many-more n m ns, here, rest)
-      | inr differs ↦
-          let away : one n m ≡ 0 = ap (λ b. cond b 1 0) differs in
-          let rest = once_few ns n once.1 in
-          omega (arith, many-more n m ns, away, rest)
-    ]
 
 -- ---- new ids of both lists
 
@@ -97,17 +51,79 @@ new_ids_of_both count some others older newer ids more once newer_once apart bel
       (λ n h. let from = mapped_from older ids n h in has_no_mapped newer more n (λ other e. apart from.0 other n from.1 e));
 }
 
--- sorted ids are the ids of both lists
-pub given_sorted : (trigram : ℕ) (before now : Written) (sorted older newer : List ℕ) →
-    ((n : ℕ) → has sorted n ≡ has (older ++ newer) n) → IsMergedList trigram before now sorted [] [] [] →
-    IsMergedList trigram before now older newer [] []
-given_sorted trigram before now sorted older newer same given = record {
-  given = given.given;
-  paths = given.paths;
-  names = given.names;
-  lists = given.lists;
-  sent = given.sent;
-  each = λ id. given.each id ∙ or-false (has sorted id) ∙ same id ∙ has_both older newer id;
-  older_rise = tt;
-  newer_rise = tt;
-}
+-- ---- sorted ids
+
+-- an ascending set of ids below the number of names is a list
+pub rise_of_set : (count next : ℕ) (ids : List ℕ) → BeginsFrom next ids → Ascends ids →
+    ((id : ℕ) → has ids id ≡ true → id < count) → AscendWithin count next ids
+rise_of_set count next [] from up below = tt
+rise_of_set count next (id ∷ ids) from up below = (
+  from,
+  below id (or_left (eqb id id) (has ids id) (eq-eqb id id refl)),
+  rise_of_set count (id + 1) ids (after ids (ascends_head id ids up)) (ascends_tail id ids up)
+      (λ other h. below other (or_right (eqb id other) (has ids other) h)),
+)
+  where
+    after : (others : List ℕ) → Above id others → BeginsFrom (id + 1) others
+    after [] h = tt
+    after (other ∷ others) h = omega (arith, h)
+
+ascends_sorted : (ids : List ℕ) → IsNonDecreasing ids → AreDistinct ids → Ascends ids
+ascends_sorted [] up once = tt
+ascends_sorted (id ∷ []) up once = tt
+ascends_sorted (id ∷ other ∷ ids) up once = (
+  elim (cases_eq other id) [
+    | inl same ↦ absurd (true≢false (sym (or_left (eqb other id) (has ids id) (eq-eqb other id same)) ∙ once.0))
+    | inr apart ↦ let from = up 0 1 id (omega arith) (omega arith) in omega (arith, from, apart)
+  ],
+  ascends_sorted (other ∷ ids) (λ i j d h k. up (suc i) (suc j) d (omega (arith, h)) (omega (arith, k))) once.1,
+)
+
+-- the sorted ids of both lists
+module _ (count : ℕ) (older newer start some all sorted : List ℕ) (are : AreDistinctIds count (older ++ newer))
+    (empty : start ≡ []) (first : some ≡ start ++ older) (then : all ≡ some ++ newer) (moved : IsPermutation all sorted) where
+  gathered : IsPermutation (older ++ newer) sorted
+  gathered = subst (λ ids. IsPermutation ids sorted)
+      (then ∙ ap (λ ids. ids ++ newer) (first ∙ ap (λ ids. ids ++ older) empty)) moved
+
+  has_sorted : (id : ℕ) → has sorted id ≡ has (older ++ newer) id
+  has_sorted id = sym (list_any-IsPermutation (λ n. eqb n id) (older ++ newer) sorted gathered)
+
+  -- the ids are the same set when they are sorted, and as many
+  once_sorted : AreDistinct sorted
+  once_sorted =
+      let sets : set_of_numbers (older ++ newer) ≡ set_of_numbers sorted = ascends_same (set_of_numbers (older ++ newer))
+      (set_of_numbers sorted) (ascends_set (older ++ newer)) (ascends_set sorted)
+      (λ id. has-set_of_numbers id (older ++ newer) ∙ sym (has_sorted id) ∙ sym (has-set_of_numbers id sorted)) in
+      distinct-length sorted (length_permutation (older ++ newer) sorted gathered
+      ∙ length-distinct (older ++ newer) are.once ∙ ap length sets)
+
+  pub sorted_rise : IsSorted nat_cmp sorted → AscendWithin count 0 sorted
+  sorted_rise up = rise_of_set count 0 sorted (begin sorted)
+      (ascends_sorted sorted (IsNonDecreasingBy-from_sort (λ id. id) sorted up) once_sorted)
+      (λ id h. are.below id (sym (has_sorted id) ∙ h))
+    where
+      begin : (ids : List ℕ) → BeginsFrom 0 ids
+      begin [] = tt
+      begin (id ∷ ids) = omega arith
+
+  pub none_sorted : (older ≡ []) × (newer ≡ []) → sorted ≡ []
+  none_sorted none = no_ids sorted (length_permutation (older ++ newer) sorted gathered
+      ∙ ap length (λ i. none.0 i ++ none.1 i))
+    where
+      no_ids : (ids : List ℕ) → length ids ≡ 0 → ids ≡ []
+      no_ids [] e = refl
+      no_ids (id ∷ ids) e = cc
+
+  pub given_sorted : (trigram : ℕ) (before now : Written) → IsMergedList trigram before now sorted [] [] [] →
+      IsMergedList trigram before now older newer [] []
+  given_sorted trigram before now given = record {
+    given = given.given;
+    paths = given.paths;
+    names = given.names;
+    lists = given.lists;
+    sent = given.sent;
+    each = λ id. given.each id ∙ or-false (has sorted id) ∙ has_sorted id ∙ has_both older newer id;
+    older_rise = tt;
+    newer_rise = tt;
+  }

@@ -1,6 +1,6 @@
 -- The merge of two lists by id.
 use Rattle.std.proofs.Common.{◌≡◌, ◌≢◌, ℕ, ◌+◌, ◌<◌, ◌≤◌, Bool, true, false, cond, ◌||◌, eqb, ltb, List, [], ◌∷◌, ◌++◌, length, refl, sym, ap, subst, ◌∙◌, ◌⊎◌, inl, inr, Option, Some, None, arith, slice_get, append_assoc}
-use Rattle.cs_merge.proofs.Common.{cases_Bool, cases_eq, eqb-true, eq-eqb, ne_eqb, ltb-true, ltb-false, same_Some, append-nil, AllByRecursion, option_map_or, PostingList, has, ids_of, with_id, Written, AllBelow, last_ids, with_written_id, with_last_id, with_last_ids, next_after, AscendWithin, ids_onward, list_of, lower_of, without_number, IsMergedList, or-true, none-some}
+use Rattle.cs_merge.proofs.Common.{cases_Bool, cases_eq, eqb-true, eq-eqb, ne_eqb, ltb-true, ltb-false, same_Some, append-nil, option_map_or, PostingList, has, ids_of, with_id, Written, AllBelow, last_ids, with_written_id, with_last_id, with_last_ids, next_after, AscendWithin, list_of, lower_of, without_number, IsMergedList, or-true, none-some}
 use Rattle.cs_merge.proofs.TrigramSetLemmas.{with_one_more, ids_of_more}
 use Rattle.std.proofs.Math.Bool.{or-false}
 use Rattle.cs_trigram.proofs.SetLemmas.{has-append}
@@ -156,14 +156,6 @@ has_both ids more n = has-append n ids more
 pub rise_ends : (count next : ℕ) (ids more : List ℕ) → next ≤ count → AscendWithin count next (ids ++ more) → next_after next ids ≤ count
 rise_ends count next [] more within up = within
 rise_ends count next (one ∷ ids) more within up = rise_ends count (one + 1) ids more (omega (arith, up.1)) up.2
-
--- a run of ids below a number ends at or before that number
-pub next_below : (id next most : ℕ) (run : List ℕ) → next ≤ most → AllByRecursion (λ other. id + 1 + other < most) run →
-    next_after next (ids_onward (id + 1) run) ≤ most
-next_below id next most [] within all = within
-next_below id next most (one ∷ run) within all =
-    let below : id + 1 + one < most = all.0 in
-    next_below id (id + 1 + one + 1) most run (omega (arith, below)) all.1
 
 -- ids are moved from the remaining ids to the written ones
 pub given_older : (given run older newer : Bool) → ((given || run) || (older || newer)) ≡ (given || ((run || older) || newer))

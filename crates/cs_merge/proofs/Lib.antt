@@ -19,7 +19,6 @@ mod IdMergeLemmas
 mod WrittenBelowLemmas
 pub mod NameMergeLemmas
 mod MergedFilesLemmas
-mod SortedRunLemmas
 mod ReadIdsLemmas
 mod IdMapLemmas
 mod TrigramMergeLemmas
@@ -28,3 +27,11 @@ mod DistinctIdLemmas
 mod WholeListLemmas
 mod OldListLemmas
 mod ListLoopLemmas
+mod AppendedIdLemmas
+mod PartLemmas
+mod JoiningLemmas
+mod JoinNamesLemmas
+mod JoinedFilesLemmas
+mod JoinedListLemmas
+mod JoinLoopLemmas
+mod JoinExamples

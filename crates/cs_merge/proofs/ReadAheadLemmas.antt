@@ -1,5 +1,5 @@
 -- A list that is read once more, ahead.
-use Rattle.std.proofs.Common.{◌≡◌, ℕ, ◌+◌, ◌-◌, ◌<◌, ◌≤◌, true, false, Bool, ◌||◌, eqb, List, [], ◌∷◌, ◌++◌, refl, sym, ap, subst, ◌∙◌, inl, inr, Option, Some, None, Result, Ok, Err, IfSome, arith, append_assoc, option_map}
+use Rattle.std.proofs.Common.{◌≡◌, ℕ, ◌+◌, ◌-◌, ◌<◌, ◌≤◌, true, false, Bool, ◌||◌, eqb, List, [], ◌∷◌, ◌++◌, refl, sym, ap, subst, ◌∙◌, inl, inr, Option, Some, None, Result, Ok, IfSome, arith, append_assoc, option_map}
 use Rattle.cs_index.proofs.encoding.EncodingDecodes.{rise_sooner}
 use Rattle.cs_index.proofs.encoding.InvertedLists.{rise_beyond}
 use Rattle.cs_merge.proofs.Common.{cases_eq, cases_lt, eq-eqb, eqb-true, ne_eqb, or_cases, or-true, true≢false, append-nil, none-some, same_Some, AllByRecursion, has, max_ids, ids_onward, AscendWithin, Ids, ids_given, IndexFault, ListEntry, NewIds, new_id, EndsWith, IsFollowed, IsMappedPostings, IsReadAhead}

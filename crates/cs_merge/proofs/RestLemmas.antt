@@ -1,31 +1,16 @@
 -- The lists that are not merged yet: those merged so far begin the lists of the merged index.
 use Rattle.std.proofs.Common.{◌≡◌, ℕ, zero, suc, ◌+◌, ◌<◌, ◌≤◌, Bool, true, false, ◌&&◌, eqb, List, [], ◌∷◌, ◌++◌, length, map, take, drop, refl, sym, ap, subst, ◌∙◌, ◌⊎◌, inl, inr, Option, Some, None, arith, append_assoc, length-append}
-use Rattle.cs_merge.proofs.Common.{true≢false, and_parts, eq-eqb, or_left, or_right, append-nil, take-append-drop, concat, list_all, has, set_of_numbers, Ascends, Above, ascends_head, ascends_set, ascends_tail, has-set_of_numbers, AscendWithin, BeginsFrom, ListEntry, PostingList, encoding_of, posting_list_bytes, sections_of, layout, list_of, Parts, are_whole, ids_read, lists_in, entries_of, AreValidParts, Written, NewIds, new_ids_of, AreIdMaps, AreMappedLists, list_ids, list_trigram, lower_of, position_after, AreMergedLists, IsMergedList, are_whole_from, rest_fault, AreTooLong, IsListsFault, both_whole}
+use Rattle.cs_merge.proofs.Common.{true≢false, and_parts, eq-eqb, or_left, append-nil, take-append-drop, concat, list_all, has, set_of_numbers, Ascends, ascends_set, has-set_of_numbers, ListEntry, PostingList, encoding_of, posting_list_bytes, sections_of, layout, list_of, Parts, are_whole, ids_read, lists_in, entries_of, AreValidParts, Written, NewIds, new_ids_of, AreIdMaps, AreMappedLists, list_ids, list_trigram, lower_of, position_after, AreMergedLists, IsMergedList, are_whole_from, rest_fault, AreTooLong, IsListsFault, both_whole}
 use Rattle.std.proofs.lemmas.List.Folds.{list_all-append}
 use Rattle.cs_index.specs.WrittenLists.{IsWritten, with_posting}
 use Rattle.cs_index.proofs.writer.WrittenSteps.{lists_within, written_begun, written_encoding}
 use Rattle.cs_merge.specs.ListsFault.{damaged, long}
-use Rattle.cs_merge.proofs.DistinctIdLemmas.{new_ids_of_both}
+use Rattle.cs_merge.proofs.DistinctIdLemmas.{new_ids_of_both, rise_of_set}
 use Rattle.cs_merge.proofs.IdMergeLemmas.{has_both}
 use Rattle.cs_merge.proofs.NextListLemmas.{damage_in_list, ids_rise}
 use Rattle.cs_merge.proofs.TrigramMergeLemmas.{all_newer, all_older, list_above, list_fits, listed_more, positions_move}
 use Rattle.std.proofs.Math.Bool.{or-false}
 use Rattle.std.proofs.lemmas.Bool.{true_from_ne_false}
-
--- an ascending set of ids below the number of names is a list
-rise_of_set : (count next : ℕ) (ids : List ℕ) → BeginsFrom next ids → Ascends ids →
-    ((id : ℕ) → has ids id ≡ true → id < count) → AscendWithin count next ids
-rise_of_set count next [] from up below = tt
-rise_of_set count next (id ∷ ids) from up below = (
-  from,
-  below id (or_left (eqb id id) (has ids id) (eq-eqb id id refl)),
-  rise_of_set count (id + 1) ids (after ids (ascends_head id ids up)) (ascends_tail id ids up)
-      (λ other h. below other (or_right (eqb id other) (has ids other) h)),
-)
-  where
-    after : (others : List ℕ) → Above id others → BeginsFrom (id + 1) others
-    after [] h = tt
-    after (other ∷ others) h = omega (arith, h)
 
 module _ (older newer : Parts) (older_ids newer_ids : NewIds) (before : Written) (older_are : AreValidParts older)
     (newer_are : AreValidParts newer) (ids_are : AreIdMaps (length before.names) older_ids newer_ids) where

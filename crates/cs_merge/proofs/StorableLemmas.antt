@@ -1,6 +1,6 @@
 -- What is read from an index can be written again.
 use Rattle.std.proofs.Common.{◌≡◌, ℕ, ◌+◌, ◌<◌, true, false, not, cond, eqb, ltb, List, [], ◌∷◌, length, map, take, drop, refl, sym, ap, ◌∙◌, inl, inr, arith, is_some, bytes_eq}
-use Rattle.cs_merge.proofs.Common.{Paths, bytes_cmp, damage, read_ids, true≢false, and_parts, and_from, or_cases, cases_Bool, ne_eqb, lt-ltb, below_all, is_sorted, AllByRecursion, list_all, is_lt, is_eq, Ordering, Less, covers, least, true_from_T, contains-union, tied_same, ListEntry, three_bytes, IsString, are_paths, are_reduced, is_before, is_storable, Parts, ids_read, merge_paths}
+use Rattle.cs_merge.proofs.Common.{Paths, bytes_cmp, damage, read_ids, true≢false, and_parts, and_from, cases_Bool, ne_eqb, lt-ltb, below_all, is_sorted, AllByRecursion, list_all, is_lt, is_eq, Ordering, Less, covers, least, true_from_T, tied_same, ListEntry, three_bytes, IsString, are_paths, are_reduced, is_before, is_storable, Parts, ids_read}
 use Rattle.std.specs.FinMap as map'
 use Rattle.cs_tree.specs.PathSet as set
 use Rattle.cs_tree.proofs.LeastLemmas.{IsLeast, least_says}
@@ -74,13 +74,7 @@ least_listed paths are =
     (each_of_map (λ (path : List ℕ) (mark : Unit {0}). IsLeast paths path) (least paths)
     (λ path mark there. least_says paths path (ap is_some there))))
 
--- the merged paths can be the paths of an index
-pub paths_listed : (old newer : List (List ℕ)) → AllByRecursion IsString old → AllByRecursion IsString newer →
-    are_paths (set.items (merge_paths (set.from_list old) (set.from_list newer))) ≡ true
-paths_listed old newer a b =
-    least_listed (set.union (set.from_list old) (set.from_list newer)) (λ path h.
-    elim (or_cases (set.contains (set.from_list old) path) (set.contains (set.from_list newer) path)
-    (sym (contains-union (set.from_list old) (set.from_list newer) path) ∙ h)) [
-      | inl here ↦ from_list_all IsString old a path here
-      | inr there ↦ from_list_all IsString newer b path there
-    ])
+-- the paths that no other covers can be the paths of an index
+pub least_stored : (paths : List (List ℕ)) → AllByRecursion IsString paths →
+    are_paths (set.items (least (set.from_list paths))) ≡ true
+least_stored paths all = least_listed (set.from_list paths) (from_list_all IsString paths all)

@@ -2,7 +2,6 @@
 use Rattle.std.proofs.Common.{◌≡◌, ◌≢◌, ℕ, ◌+◌, ◌<◌, ◌≤◌, Bool, true, false, cond, ◌||◌, eqb, ltb, List, [], ◌∷◌, ◌++◌, length, refl, sym, ap, subst, ◌∙◌, inl, inr, Option, Some, None, arith, slice_get, append_assoc, length-append}
 use Rattle.cs_merge.proofs.Common.{cases_Bool, eq-eqb, ltb-false, same_Some, append-nil, AllByRecursion, option_map_or, PostingList, has, ids_of, with_id, Written, AllBelow, last_ids, with_written_id, with_last_id, with_last_ids, next_after, AscendWithin, ids_onward, list_of, lower_of, without_number, BeginFrom, IsBelow, IsRunOf, IsMergedList, IsWrittenBelow}
 use Rattle.cs_merge.proofs.IdMergeLemmas.{first_rises, given_older, has_both, next_after_push, rise_ends, with_more}
-use Rattle.cs_merge.proofs.SortedRunLemmas.{left_first}
 use Rattle.cs_merge.proofs.TrigramSetLemmas.{ids_of_more}
 use Rattle.cs_index.proofs.postings.EncodedRuns.{onward_last}
 use Rattle.cs_index.proofs.postings.StreamPush.{next_append}
@@ -113,6 +112,12 @@ begun_on limit before now ids left g begun written =
     ap (λ (w : Written). w.last_trigram) written.now_is ∙ (appended g before written.given begun).begun
 
 -- ---- the first id, and a run
+
+pub left_first : (id : ℕ) (ids : List ℕ) → slice_get ids 0 ≡ Some id → ids ≡ id ∷ without_number id ids
+left_first id [] there = cc
+left_first id (other ∷ ids) there =
+    let is : other ≡ id = same_Some other id there in
+    ap (λ n. n ∷ ids) is ∙ ap (λ ns. id ∷ ns) (sym (ap (λ b. cond b ids (other ∷ ids)) (eq-eqb other id is)))
 
 pub fewer_first : (id : ℕ) (ids : List ℕ) → slice_get ids 0 ≡ Some id → length (without_number id ids) < length ids
 fewer_first id ids there =

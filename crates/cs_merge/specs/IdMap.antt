@@ -1,6 +1,6 @@
 -- Maps from old ids to the ids of the merged index.
 -- docs/PROMISES.md, "Merging"; index/merge.go, "idMap".
-use Rattle.std.specs.Prelude.{◌≡◌, ℕ, ◌+◌, ◌-◌, ◌<◌, ◌≤◌, Bool, true, false, List, [], ◌∷◌, Option, Some, None, slice_get, slice_index, length, option_and_then, option_map, filter_map}
+use Rattle.std.specs.Prelude.{◌≡◌, ℕ, ◌+◌, ◌-◌, ◌<◌, ◌≤◌, Bool, true, false, List, [], Option, Some, None, slice_get, slice_index, length, option_and_then, option_map, filter_map}
 use Rattle.cs_tree.specs.NamesAscending.{are_ascending}
 use Rattle.cs_index.specs.Built.{is_above}
 use Rattle.cs_index.specs.Written.{Written}
@@ -45,16 +45,6 @@ StayBelow count new_ids = (id new : ℕ) → new_id new_ids id ≡ Some new → 
 abbrev pub IsRun : NewIds → ℕ → ℕ → Type 0
 IsRun new_ids id end = (other : ℕ) → id ≤ other → other < end →
     new_id new_ids other ≡ option_map (λ new. new + (other - id)) (new_id new_ids id)
-
--- The new ids of the range come from consecutive ids.
-pub record IsImageOfRun (new_ids : NewIds) (new end : ℕ) : Type 0 where
-  pub from : ℕ
-  pub each : (other : ℕ) → new ≤ other → other < end → new_id new_ids (from + (other - new)) ≡ Some other
-
--- new ids of ascending ids, which begin at `next` or later
-abbrev pub AreNewIdsFrom : NewIds → ℕ → List ℕ → Type 0
-AreNewIdsFrom new_ids next [] = Unit {0}
-AreNewIdsFrom new_ids next (new ∷ news) = (id : ℕ) × (next ≤ id) × (new_id new_ids id ≡ Some new) × AreNewIdsFrom new_ids (id + 1) news
 
 -- each entry is the end of a run that begins at its id
 abbrev pub AreRunEnds : NewIds → List ℕ → Type 0

@@ -12,7 +12,7 @@ use Rattle.cs_index.specs.PostingLists.{Ids}
 use Rattle.cs_index.specs.Postings.{nothing_read, IsListFault}
 use Rattle.cs_index.specs.declared.fault.IndexFault.{IndexFault}
 use Rattle.cs_index.specs.Gathering.{list_of}
-use Rattle.cs_merge.specs.IdMap.{NewIds, new_id, AreMappedLists, IsImageOfRun}
+use Rattle.cs_merge.specs.IdMap.{NewIds, new_id, AreMappedLists}
 
 -- the minimum of two optional numbers
 abbrev pub lower_of : Option ℕ → Option ℕ → Option ℕ
@@ -113,31 +113,6 @@ pub record IsMergedList (trigram : ℕ) (before now : Written) (older newer olde
   pub each : (id : ℕ) → (has given id || (has older_left id || has newer_left id)) ≡ (has older id || has newer id)
   pub older_rise : AscendWithin (length before.names) (next_after 0 given) older_left
   pub newer_rise : AscendWithin (length before.names) (next_after 0 given) newer_left
-
--- the first id of a run, and the ids that follow it, relative to it
-abbrev pub IdRun : Type 0
-IdRun = ℕ × List ℕ
-
--- the ids of a run
-abbrev pub run_ids : IdRun → List ℕ
-run_ids id_run = id_run.0 ∷ ids_onward (id_run.0 + 1) id_run.1
-
-abbrev pub runs_ids : List IdRun → List ℕ
-runs_ids [] = []
-runs_ids (id_run ∷ id_runs) = run_ids id_run ++ runs_ids id_runs
-
--- The ids lie in one run of the map.
-pub record IsWithinRun (new_ids : NewIds) (id_run : IdRun) : Type 0 where
-  pub end : ℕ
-  pub moved : IsImageOfRun new_ids id_run.0 end
-  pub below : AllByRecursion (λ other. id_run.0 + 1 + other < end) id_run.1
-
--- The runs appended so far have the first ids, and `left` has the others.
-pub record AreGathered (new_ids : NewIds) (before now : List IdRun) (ids left : List ℕ) : Type 0 where
-  pub more : List IdRun
-  pub are : now ≡ before ++ more
-  pub ids_are : ids ≡ runs_ids more ++ left
-  pub each : AllByRecursion (IsWithinRun new_ids) more
 
 -- Distinct ids below the count, in any order.
 pub record AreDistinctIds (count : ℕ) (ids : List ℕ) : Type 0 where

@@ -2,8 +2,8 @@
 // and `idrange` in index/merge.go. A run is a range of ids that the map shifts by one distance, or
 // that it drops as a whole.
 ghost use Rattle.std.specs.Prelude.{◌≡◌, ◌<◌, ◌^◌, ◌∷◌, ◌++◌, [], length, IfOk, OnOk, ◌+◌, true, option_map};
-ghost use Rattle.cs_merge.specs.IdMap.{new_id as new_id', AreScattered, IsImageOfRun, IsIncreasing, IsRun};
-ghost use Rattle.cs_merge.specs.ListMerge.{AreDistinctIds};
+ghost use Rattle.cs_merge.specs.Cited.{AreScattered, IsIncreasing, IsRun, AreDistinctIds};
+ghost use Rattle.cs_merge.specs.IdMap.{new_id as new_id'};
 
 use std::alloc::{AllocError, Global};
 use std::marker::Model;
@@ -148,17 +148,6 @@ impl<'a> IdRuns<'a> {
             Some(end) => *end,
             None => 0,
         }
-    }
-
-    /// The end of the new ids of the run that contains `id`, whose new id is `new`. If `id` has
-    /// another new id or none, the result is `new`, so that the range is empty.
-    pub(crate) fn new_end(&self, id: u32, new: u32) -> u32
-        ensures { IsImageOfRun self.now new result }
-    {
-        if self.new_id(id) != Some(new) {
-            return new;
-        }
-        new.saturating_add(self.end(id).saturating_sub(id))
     }
 }
 

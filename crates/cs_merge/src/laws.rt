@@ -1,21 +1,8 @@
 // Laws of the merge, and of the content of an index. None of these functions does anything.
 ghost use Rattle.std.specs.Prelude.{◌≡◌, ◌<◌, ◌^◌, ◌||◌, ◌↔◌, List, ℕ, true, false, Some, Ok, length, slice_index_or};
-ghost use Rattle.cs_tree.specs.PathSet.{Paths};
-ghost use Rattle.cs_tree.specs.NameOrder.{bytes_cmp};
-ghost use Rattle.cs_tree.specs.ByteList.{AreBytes};
-ghost use Rattle.cs_index.specs.PostingLists.{set_at};
+ghost use Rattle.cs_merge.specs.Cited.{Paths, bytes_cmp, AreBytes, set_at, is_covered, least, Files, encoding, parts_written, opening, Parts, files_in, lists_in, paths_in, DecodesAs, merge_files, merge_paths, merge_index, IsCoveredBy, is_replaced, IsContent, LieUnder, DecodesAsContent, HasContent, Opens};
 ghost use Rattle.std.specs.FinMap as map;
 ghost use Rattle.cs_tree.specs.PathSet as set;
-ghost use Rattle.cs_tree.specs.Cover.{is_covered, least};
-ghost use Rattle.cs_index.specs.Encoding.{Files, encoding};
-ghost use Rattle.cs_index.specs.Roundtrip.{parts_written};
-ghost use Rattle.cs_index.specs.Opening.{opening};
-ghost use Rattle.cs_index.specs.OpenedParts.{Parts, files_in, lists_in, paths_in};
-ghost use Rattle.cs_index.specs.Decoding.{DecodesAs};
-ghost use Rattle.cs_merge.specs.Merge.{merge_files, merge_paths};
-ghost use Rattle.cs_merge.specs.Mergeable.{merge_index};
-ghost use Rattle.cs_merge.specs.Replacing.{IsCoveredBy, is_replaced};
-ghost use Rattle.cs_merge.specs.Content.{IsContent, LieUnder, DecodesAsContent, HasContent, Opens};
 
 /// At a name that the newer paths cover, the merge has what the newer index has.
 pub fn newer_wins()

@@ -1,10 +1,8 @@
 // A posting list whose ids are mapped while it is read. Go: `postMapReader` in index/merge.go.
 ghost use Rattle.std.specs.Prelude.{◌≡◌, ℕ, List, ◌+◌, ◌<◌, ◌++◌, [], true, false, Some, None, slice_get, IfOk, IfErr, IfSome, OnOk, MatchResult};
 ghost use Rattle.std.specs.List.{cons_option, AllByRecursion};
-ghost use Rattle.cs_index.specs.AscendingIds.{ids_onward, max_ids, AscendWithin};
-ghost use Rattle.cs_merge.specs.IdMap.{new_id as new_id', new_ids_of, new_ids_read};
-ghost use Rattle.cs_merge.specs.ListMerge.{ids_after, new_of, EndsIn, EndsWith, IsFollowed, IsReadAhead, IsRunOf, IsSkipped};
-ghost use Rattle.cs_index.specs.Postings.{nothing_read};
+ghost use Rattle.cs_merge.specs.Cited.{ids_onward, max_ids, AscendWithin, new_ids_of, new_ids_read, ids_after, new_of, EndsIn, EndsWith, IsFollowed, IsReadAhead, IsRunOf, IsSkipped, nothing_read};
+ghost use Rattle.cs_merge.specs.IdMap.{new_id as new_id'};
 
 use crate::id_map::IdRuns;
 use cs_index::{EncodedRun, IndexFault, Postings};
@@ -94,11 +92,6 @@ impl<'a, 'b> MappedPostings<'a, 'b> {
         self.first
     }
 
-    /// The old id of the first new id.
-    pub(crate) fn last(&self) -> u32 {
-        self.last
-    }
-
     /// Whether `next_run` is expected to have more than a few ids. Their distance is taken to be
     /// that of the last two ids.
     #[inline(always)]
@@ -128,7 +121,7 @@ impl<'a, 'b> MappedPostings<'a, 'b> {
 
     /// Reads the rest of the first id's run without decoding it. The run is relative to the first
     /// id, and its new ids are less than `limit`.
-    pub(crate) fn run(&mut self, id: u32, limit: Option<u32>) -> EncodedRun<'a>
+    fn run(&mut self, id: u32, limit: Option<u32>) -> EncodedRun<'a>
         requires { slice_get self.old.ids 0 ≡ Some id }
         ensures run { IsRunOf id limit result self.old.ids self.new.ids }
         ensures whole { self.new.whole ≡ self.old.whole }

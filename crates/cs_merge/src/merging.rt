@@ -1,21 +1,8 @@
 // The merge of an index with a newer one.
 ghost use Rattle.std.specs.Prelude.{◌≡◌, ◌++◌, ℕ, List, [], Some, map, string_bytes, IfErr, IfOk, OnOk, MatchResult};
 ghost use Rattle.std.specs.List.{AllByRecursion};
-ghost use Rattle.cs_tree.specs.KeepsStore.{KeepsStore};
-ghost use Rattle.cs_tree.specs.Cover.{is_covered};
+ghost use Rattle.cs_merge.specs.Cited.{KeepsStore, is_covered, least, IsString, encoding_of, Parts, paths_in, TablesIn, IsSentOn, entries_written, AreMergedNames, IsBegun, IsBegunWith, known_parts, IsStored, merge_paths, AreTested, most_bytes, IsBuildFault, IsGivenIndex, IsIndexWithin, IsMerged, IsMergeAnswer, IsMergeFault, AreIndexNames, AreTestedNames};
 ghost use Rattle.cs_tree.specs.PathSet as set;
-ghost use Rattle.cs_index.specs.Encoding.{IsString, encoding_of};
-ghost use Rattle.cs_index.specs.OpenedParts.{Parts, paths_in};
-ghost use Rattle.cs_index.specs.Tables.{TablesIn};
-ghost use Rattle.cs_index.specs.Sending.{IsSentOn};
-ghost use Rattle.cs_index.specs.Written.{entries_written};
-ghost use Rattle.cs_merge.specs.IdMap.{AreMergedNames};
-ghost use Rattle.cs_merge.specs.Begun.{IsBegun};
-ghost use Rattle.cs_merge.specs.OldLists.{known_parts, IsStored};
-ghost use Rattle.cs_merge.specs.Merge.{merge_paths};
-ghost use Rattle.cs_merge.specs.Mergeable.{AreTested};
-ghost use Rattle.cs_merge.specs.MergeResult.{most_bytes, IsBuildFault, IsGivenIndex, IsIndexWithin, IsMerged, IsMergeAnswer, IsMergeFault};
-ghost use Rattle.cs_merge.specs.SortedNames.{AreIndexNames, AreTestedNames};
 
 use crate::fault::MergeFault;
 use crate::id_map::IdMaps;
@@ -197,35 +184,36 @@ fn begin_merged(
 fn begin_paths(alloc: Global, old: Texts<'_>, newer: Texts<'_>) -> Result<Sections, AllocError>
     requires old { AllByRecursion IsString old }
     requires newer { AllByRecursion IsString newer }
-    ensures paths { IfOk result (λ sections. sections.paths ≡
-        set.items (merge_paths (set.from_list old.entry) (set.from_list newer.entry))) }
-    ensures unnamed { IfOk result (λ sections. sections.names ≡ []) }
-    ensures unlisted { IfOk result (λ sections. sections.lists ≡ []) }
-    ensures sent { IfOk result (λ sections. sections.sent ≡ []) }
+    ensures { IfOk result (IsBegunWith
+        (set.items (merge_paths (set.from_list old.entry) (set.from_list newer.entry)))) }
 {
-    let paths = merged_paths(alloc, old, newer)?;
-    match Sections::new(alloc, &paths) {
+    let mut paths = Vec::new(alloc);
+    copy(alloc, &mut paths, old)?;
+    copy(alloc, &mut paths, newer)?;
+    begin_least(alloc, &paths)
+}
+
+/// An index of the paths that no other path covers, which has no names and no lists yet.
+pub(crate) fn begin_least(alloc: Global, paths: &[String]) -> Result<Sections, AllocError>
+    requires { AllByRecursion IsString (map string_bytes paths.now) }
+    ensures { IfOk result (IsBegunWith
+        (set.items (least (set.from_list (map string_bytes paths.now))))) }
+{
+    let kept = reduce(alloc, paths)?;
+    match Sections::new(alloc, &kept) {
         Ok(sections) => Ok(sections),
-        // The merged paths are valid paths of an index.
+        // Of valid paths, those that no other covers are valid paths of an index.
         Err(BuildFault::BadPaths) => unreachable!(),
         Err(_) => Err(AllocError),
     }
 }
 
-/// The paths of both that no other path covers, ascending.
-fn merged_paths(alloc: Global, old: Texts<'_>, newer: Texts<'_>) -> Result<Vec<String>, AllocError>
-    ensures { IfOk result (λ paths. map string_bytes paths.items ≡
-        set.items (merge_paths (set.from_list old.entry) (set.from_list newer.entry))) }
-{
-    let mut paths = Vec::new(alloc);
-    copy(alloc, &mut paths, old)?;
-    copy(alloc, &mut paths, newer)?;
-    let kept = reduce(alloc, &paths)?;
-    Ok(kept)
-}
-
 /// Appends a copy of each text.
-fn copy(alloc: Global, copies: &mut Vec<String>, texts: Texts<'_>) -> Result<(), AllocError>
+pub(crate) fn copy(
+    alloc: Global,
+    copies: &mut Vec<String>,
+    texts: Texts<'_>,
+) -> Result<(), AllocError>
     ensures { OnOk result (map string_bytes copies.new.items ≡
         map string_bytes copies.old.items ++ texts.entry) }
 {
@@ -236,7 +224,11 @@ fn copy(alloc: Global, copies: &mut Vec<String>, texts: Texts<'_>) -> Result<(),
 }
 
 /// Encodes the index and sends what is not sent yet. `TooLarge` if it has more than `most` bytes.
-fn finish<O: Output>(sections: Sections, most: u32, out: &mut O) -> Result<Sent, MergeFault>
+pub(crate) fn finish<O: Output>(
+    sections: Sections,
+    most: u32,
+    out: &mut O,
+) -> Result<Sent, MergeFault>
     ensures ok { IfOk result (λ index. IsIndexWithin most
         (encoding_of sections.paths (entries_written sections)) index.bytes) }
     ensures fault { IfErr result (λ fault. IsBuildFault most

@@ -1,15 +1,10 @@
 // The merge of the posting lists of one trigram: a two-way merge by id that copies long runs.
 ghost use Rattle.std.specs.Prelude.{◌≡◌, ◌≢◌, ◌⊎◌, ◌<◌, ◌^◌, ◌&&◌, ◌++◌, [], ◌∷◌, true, false, Some, None, length, slice_get, IfErr, IfOk, OnOk};
-ghost use Rattle.cs_trigram.specs.Trigram.{closing_trigram};
-ghost use Rattle.cs_index.specs.Written.{last_ids, AllBelow};
-ghost use Rattle.cs_index.specs.Postings.{IsListFault};
-ghost use Rattle.cs_index.specs.AscendingIds.{next_after, AscendWithin};
-ghost use Rattle.cs_merge.specs.IdMap.{AreUnique, IsIncreasing, AreNewIdsFrom};
-ghost use Rattle.cs_merge.specs.ListMerge.{lower_of, runs_ids, AreGathered, AreDistinctIds, IsWrittenBelow, BeginFrom, IsBelow, IsListAnswer, IsMergedList};
+ghost use Rattle.cs_merge.specs.Cited.{closing_trigram, last_ids, AllBelow, IsListFault, next_after, AscendWithin, IsIncreasing, lower_of, AreDistinctIds, IsWrittenBelow, BeginFrom, IsBelow, IsListAnswer, IsMergedList};
 
 use crate::id_map::{IdMaps, IdRuns};
 use crate::mapped_postings::MappedPostings;
-use cs_index::{EncodedRun, IndexFault, Sections};
+use cs_index::{IndexFault, Sections};
 use std::alloc::{AllocError, Global};
 
 /// The id maps of both indexes, with their runs.
@@ -40,8 +35,8 @@ pub(crate) struct BothLists<'a, 'b> {
     pub(crate) newer: MappedPostings<'a, 'b>,
 }
 
-/// Writes the merged list of one trigram. If a map is not increasing, the runs of both lists are
-/// sorted by their first new id.
+/// Writes the merged list of one trigram. If a map is not increasing, the new ids of both lists are
+/// sorted.
 pub(crate) fn merge_list(
     alloc: Global,
     sections: &mut Sections,
@@ -49,9 +44,6 @@ pub(crate) fn merge_list(
     lists: BothLists<'_, '_>,
     runs: &BothRuns<'_>,
 ) -> Result<(), IndexFault>
-    requires once { AreUnique runs.now.older runs.now.newer }
-    requires older_under { AreNewIdsFrom runs.now.older 0 lists.older.ids }
-    requires newer_under { AreNewIdsFrom runs.now.newer 0 lists.newer.ids }
     requires above { AllBelow sections.old.lists trigram }
     requires older_rise { IsIncreasing runs.now.older →
         AscendWithin (length sections.old.names) 0 lists.older.ids }
@@ -67,52 +59,41 @@ pub(crate) fn merge_list(
     if runs.older.is_increasing() && runs.newer.is_increasing() {
         return merge_ascending(sections, trigram, lists);
     }
-    let mut list_runs = Vec::new(alloc);
-    gather(&mut list_runs, lists.older, &runs.older)?;
-    gather(&mut list_runs, lists.newer, &runs.newer)?;
-    list_runs.sort_unstable_by(|one, other| one.0.cmp(&other.0));
-    write_runs(sections, trigram, &list_runs)?;
+    let mut ids = Vec::new(alloc);
+    gather(&mut ids, lists.older)?;
+    gather(&mut ids, lists.newer)?;
+    // Most of the ids ascend already, which a stable sort makes use of.
+    ids.sort()?;
+    write_ids(sections, trigram, &ids)?;
     Ok(())
 }
 
-/// Splits a list into runs, each with its first new id, and appends them.
-fn gather<'a>(
-    list_runs: &mut Vec<(u32, EncodedRun<'a>)>,
-    list: MappedPostings<'a, '_>,
-    runs: &IdRuns<'_>,
-) -> Result<(), IndexFault>
-    ensures ok { OnOk result
-        (AreGathered runs.now list_runs.old.items list_runs.new.items list.entry.ids []) }
+/// Appends the new ids of a list.
+fn gather(ids: &mut Vec<u32>, list: MappedPostings<'_, '_>) -> Result<(), IndexFault>
+    ensures ok { OnOk result (ids.new.items ≡ ids.old.items ++ list.entry.ids) }
     ensures fault { IsListAnswer list.entry.whole result }
 {
     let mut rest = list;
     'ids: while let Some(id) = rest.first() {
-        let end = runs.new_end(rest.last(), id);
-        let ids = rest.run(id, Some(end));
-        list_runs.push((id, ids))?;
+        ids.push(id)?;
         rest.advance(id)?;
     }
     Ok(())
 }
 
-/// Writes the list of a trigram from runs whose ids ascend.
-fn write_runs(
-    sections: &mut Sections,
-    trigram: u32,
-    list_runs: &[(u32, EncodedRun<'_>)],
-) -> Result<(), AllocError>
+/// Writes the list of a trigram from ascending ids.
+fn write_ids(sections: &mut Sections, trigram: u32, ids: &[u32]) -> Result<(), AllocError>
     requires above { AllBelow sections.old.lists trigram }
-    requires rise { AscendWithin (length sections.old.names) 0 (runs_ids list_runs.now) }
-    requires below { (trigram < closing_trigram) ⊎ (runs_ids list_runs.now ≡ []) }
-    ensures { OnOk result (IsMergedList trigram sections.old sections.new (runs_ids list_runs.now) [] [] []) }
+    requires rise { AscendWithin (length sections.old.names) 0 ids.now }
+    requires below { (trigram < closing_trigram) ⊎ (ids.now ≡ []) }
+    ensures { OnOk result (IsMergedList trigram sections.old sections.new ids.now [] [] []) }
 {
-    if list_runs.is_empty() {
+    if ids.is_empty() {
         return Ok(());
     }
     sections.list(trigram);
-    'list_runs: for (first, ids) in list_runs {
-        sections.id(*first)?;
-        sections.encoded_run(ids)?;
+    'ids: for id in ids {
+        sections.id(*id)?;
     }
     Ok(())
 }

@@ -3,16 +3,8 @@
 ghost use Rattle.std.specs.Prelude.{◌≡◌, ◌<◌, ◌≤◌, ◌+◌, ◌^◌, ◌∷◌, ◌++◌, [], true, false, Some, length, IfOk, OnOk, option_copied, slice_get, IfErr, MatchOption};
 ghost use Rattle.std.specs.Option.{option_map_or};
 ghost use Rattle.std.specs.Ordering.{is_lt};
-ghost use Rattle.cs_tree.specs.NameOrder.{bytes_cmp};
+ghost use Rattle.cs_merge.specs.Cited.{bytes_cmp, is_above, is_storable, with_written_name, is_covered, sorted_names, AreSortedNames, AreIndexNames, AreDropped, AreMergedNames, IsMergingNames, AreByRank, max_ids, are_distinct, are_ascending};
 ghost use Rattle.cs_tree.specs.PathSet as set;
-ghost use Rattle.cs_index.specs.Built.{is_above, is_storable};
-ghost use Rattle.cs_index.specs.Written.{with_written_name};
-ghost use Rattle.cs_tree.specs.Cover.{is_covered};
-ghost use Rattle.cs_merge.specs.SortedNames.{sorted_names, AreSortedNames, AreIndexNames};
-ghost use Rattle.cs_merge.specs.IdMap.{AreDropped, AreMergedNames, IsMergingNames, AreByRank};
-ghost use Rattle.cs_index.specs.AscendingIds.{max_ids};
-ghost use Rattle.cs_tree.specs.Folders.{are_distinct};
-ghost use Rattle.cs_tree.specs.NamesAscending.{are_ascending};
 
 use crate::id_map::{IdMap, IdMaps};
 use crate::replacing::Cover;

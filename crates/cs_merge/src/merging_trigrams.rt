@@ -1,17 +1,7 @@
 // The merge of the posting lists: a two-way merge by trigram, which reads the lists of each index
 // in their order.
 ghost use Rattle.std.specs.Prelude.{◌≡◌, ◌<◌, ◌^◌, ◌+◌, ◌&&◌, ℕ, List, Option, [], true, false, Some, None, length, IfErr, IfOk, MatchResult, OnOk};
-ghost use Rattle.cs_tree.specs.KeepsStore.{KeepsStore};
-ghost use Rattle.cs_index.specs.OpenedParts.{Parts};
-ghost use Rattle.cs_index.specs.ValidParts.{AreValidParts};
-ghost use Rattle.cs_index.specs.Postings.{IsListFault};
-ghost use Rattle.cs_index.specs.Sending.{IsSentOn};
-ghost use Rattle.cs_index.specs.Written.{IsSentEarly, Written};
-ghost use Rattle.cs_merge.specs.IdMap.{new_ids_of, new_ids_read, AreIdMaps};
-ghost use Rattle.cs_merge.specs.ListMerge.{list_ids, list_trigram, position_after, AreLeft, IsListAnswer, IsMergedList};
-ghost use Rattle.cs_merge.specs.OldLists.{known_parts, next_trigram, old_ids, AreAllMerged, AreRead, IsMergingLists, IsStored};
-ghost use Rattle.cs_merge.specs.ListsFault.{are_whole_from, rest_fault, IsListsFault};
-ghost use Rattle.cs_merge.specs.Mergeable.{both_whole};
+ghost use Rattle.cs_merge.specs.Cited.{KeepsStore, Parts, AreValidParts, IsListFault, IsSentOn, IsSentEarly, Written, new_ids_of, new_ids_read, AreIdMaps, list_ids, list_trigram, position_after, AreLeft, IsListAnswer, IsMergedList, known_parts, next_trigram, old_ids, AreAllMerged, AreRead, IsMergingLists, IsStored, are_whole_from, rest_fault, IsListsFault, both_whole};
 
 use crate::fault::MergeFault;
 use crate::id_map::IdRuns;
@@ -278,7 +268,7 @@ fn trigram_at(index: &Index<'_>, position: u32) -> Option<u32>
 }
 
 /// The next position of the old lists if the one at this position has the trigram, else this one.
-fn next_older(tables: &Tables<'_>, position: u32, trigram: u32) -> u32
+pub(crate) fn next_older(tables: &Tables<'_>, position: u32, trigram: u32) -> u32
     ensures { result ≡ position_after (known_parts tables.now) position trigram }
 {
     if position < tables.lists() {

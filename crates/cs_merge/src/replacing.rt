@@ -2,16 +2,10 @@
 ghost use Rattle.std.specs.Prelude.{◌≡◌, ℕ, List, true, Some, IfOk, ◌∷◌, [], is_some, IfSome};
 ghost use Rattle.std.specs.List.{list_all, list_any};
 ghost use Rattle.std.specs.Option.{option_map_or};
-ghost use Rattle.cs_tree.specs.KeepsStore.{KeepsStore};
-ghost use Rattle.cs_tree.specs.Cover.{is_covered, covers as covers', is_covered as is_covered'};
+ghost use Rattle.cs_merge.specs.Cited.{KeepsStore, is_covered, Parts, are_whole, paths_in, are_covered, Ids, TablesIn, AreRead, IsStored, are_whole_from, AreAmong};
+ghost use Rattle.cs_tree.specs.Cover.{covers as covers', is_covered as is_covered'};
 ghost use Rattle.cs_tree.specs.PathSet as set;
-ghost use Rattle.cs_index.specs.OpenedParts.{Parts, are_whole, paths_in, are_covered};
-ghost use Rattle.cs_index.specs.PostingLists.{Ids};
-ghost use Rattle.cs_index.specs.Tables.{TablesIn};
-ghost use Rattle.cs_merge.specs.OldLists.{AreRead, IsStored};
-ghost use Rattle.cs_merge.specs.ListsFault.{are_whole_from};
 ghost use Rattle.cs_merge.specs.Replacing.{is_replaced as is_replaced'};
-ghost use Rattle.cs_merge.specs.SomePaths.{AreAmong};
 
 use cs_index::{Index, ListReader, Postings, Tables, Texts};
 use cs_tree::{IoFault, Store, covers, is_covered};

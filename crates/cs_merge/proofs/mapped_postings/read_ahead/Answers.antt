@@ -1,4 +1,4 @@
-use Rattle.std.proofs.Common.{◌≡◌, ℕ, ◌+◌, ◌<◌, ◌≤◌, List, ◌∷◌, refl, sym, ap, subst, ◌∙◌, arith}
+use Rattle.std.proofs.Common.{◌+◌, ◌≤◌, ◌∷◌, refl, sym, ap, subst, ◌∙◌, arith}
 use Rattle.cs_merge.proofs.Common.{ids_given, max_ids}
 use Rattle.cs_merge.proofs.ReadAheadLemmas.{IsReading, ends, fault_left, fault_none, reading_starts, reads_one, skips, stops}
 use Rattle.cs_index.proofs.postings.IteratorSteps.{yields_ok, yields_none}

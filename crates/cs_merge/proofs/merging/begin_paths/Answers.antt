@@ -1,11 +1,28 @@
-use Rattle.std.proofs.Common.{map, sym, ap, ◌∙◌, string_bytes, ◌≡◌, true, Err}
-use Rattle.cs_merge.proofs.Common.{are_paths, true≢false}
-use Rattle.cs_merge.proofs.StorableLemmas.{paths_listed}
+use Rattle.std.proofs.Common.{◌≡◌, ap, subst, sym, ◌∙◌, ◌++◌, ℕ, List, map, string_bytes, IfOk}
+use Rattle.std.specs.List.{AllByRecursion}
+use Rattle.cs_tree.proofs.GatherLemmas.{all-append}
+use Rattle.cs_tree.specs.PathSet as set
+use Rattle.cs_merge.proofs.Common.{least, IsString}
+use Rattle.cs_merge.proofs.CoverLemmas.{paths_merged}
+use Rattle.cs_merge.specs.Begun.{IsBegunWith}
 use Rattle.cs_merge.proofs.merging.begin_paths.Goals as goal
 
-pub unreachable-requires : goal.unreachable-requires
-unreachable-requires c =
-    let valid : are_paths (map string_bytes c.deref.result.now) ≡ true =
-    ap are_paths (ap (map string_bytes) c.deref.ensures.value ∙ c.in_ok-paths.ensures)
-    ∙ paths_listed c.args.old c.args.newer c.requires.old c.requires.newer in
-    true≢false (sym valid ∙ c.new.ensures.bad_paths.0 (c.in-Err-BadPaths.is ∙ ap Err c.in-Err-BadPaths.field-0-is))
+pub begin_least-requires : goal.begin_least-requires
+begin_least-requires c =
+    let prefix : map string_bytes c.copy.new.copies.items ≡ c.args.old = c.in_ok-copy.ensures
+    ∙ ap (λ (paths : List (List ℕ)). paths ++ c.args.old) (ap (map string_bytes) c.new-paths.ensures.items) in
+    let both : map string_bytes c.deref.result.now ≡ c.args.old ++ c.args.newer =
+    ap (map string_bytes) c.deref.ensures.value ∙ c.in_ok-copy-2.ensures
+    ∙ ap (λ (paths : List (List ℕ)). paths ++ c.args.newer) prefix in
+    subst (AllByRecursion IsString) (sym both) (all-append IsString c.args.old c.args.newer c.requires.old c.requires.newer)
+
+pub returns : goal.returns
+returns c =
+    let prefix : map string_bytes c.copy.new.copies.items ≡ c.args.old = c.in_ok-copy.ensures
+    ∙ ap (λ (paths : List (List ℕ)). paths ++ c.args.old) (ap (map string_bytes) c.new-paths.ensures.items) in
+    let both : map string_bytes c.deref.result.now ≡ c.args.old ++ c.args.newer =
+    ap (map string_bytes) c.deref.ensures.value ∙ c.in_ok-copy-2.ensures
+    ∙ ap (λ (paths : List (List ℕ)). paths ++ c.args.newer) prefix in
+    subst (λ (ps : List (List ℕ)). IfOk c.begin_least.result (IsBegunWith ps))
+    (ap (λ (ps : List (List ℕ)). set.items (least (set.from_list ps))) both
+    ∙ ap set.items (paths_merged c.args.old c.args.newer)) c.begin_least.ensures

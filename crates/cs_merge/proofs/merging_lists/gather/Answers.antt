@@ -1,24 +1,32 @@
-use Rattle.std.proofs.Common.{◌≡◌, ℕ, ◌++◌, ◌∷◌, List, [], Some, sym, ap, subst, ◌∙◌, slice_get}
-use Rattle.cs_merge.proofs.Common.{Ids, AreGathered, IdRun}
-use Rattle.cs_merge.proofs.SortedRunLemmas.{all_gathered, one_gathered}
+use Rattle.std.proofs.Common.{◌≡◌, ◌++◌, ◌∷◌, List, ℕ, [], None, Some, arith, length, sym, ap, ◌∙◌, append_assoc, slice_get}
+use Rattle.cs_merge.proofs.Common.{Ids, append-nil}
+use Rattle.cs_merge.proofs.WrittenBelowLemmas.{begin_end, fewer_first, left_first}
 use Rattle.cs_merge.proofs.merging_lists.gather.Goals as goal
 
 pub ids-preserved : goal.ids-preserved
 ids-preserved c =
-    let there : slice_get c.ids.rest.ids 0 ≡ Some c.in-Some.id = sym c.first.ensures.first ∙ c.in-Some.is in
-    let more = one_gathered c.in-Some.id c.new_end-end.result c.run-ids.result c.ids.rest.ids c.run-ids.new.self.ids
-    there c.run-ids.ensures.run c.args.runs.now c.args.list_runs.now.items c.ids.list_runs.items c.args.list.ids
-    c.new_end-end.ensures c.ids.invariant.all in
+    let id = c.in-Some.id in
+    let left = c.ids.rest.ids in
+    let there : slice_get left 0 ≡ Some id = sym c.first.ensures.first ∙ c.in-Some.is in
     record {
-      all = subst (λ (list_runs : List IdRun). AreGathered c.args.runs.now c.args.list_runs.now.items list_runs
-          c.args.list.ids c.advance.new.self.ids) (sym c.in_ok-push.ensures.items)
-          (subst (λ (ids : List ℕ). AreGathered c.args.runs.now c.args.list_runs.now.items
-          (c.ids.list_runs.items ++ (c.in-Some.id, c.run-ids.result) ∷ []) c.args.list.ids ids)
-          (sym (ap (λ (r : Ids). r.ids) c.in_ok-advance.ensures.ok)) more);
-      whole = ap (λ (r : Ids). r.whole) c.in_ok-advance.ensures.ok ∙ c.run-ids.ensures.whole ∙ c.ids.invariant.whole;
+      all =
+          ap (λ (items : List ℕ). items ++ c.advance.new.self.ids) c.in_ok-push.ensures.items
+          ∙ ap (λ (r : Ids). (c.ids.ids.items ++ id ∷ []) ++ r.ids) c.in_ok-advance.ensures.ok
+          ∙ append_assoc c.ids.ids.items (id ∷ []) _
+          ∙ ap (λ (rest : List ℕ). c.ids.ids.items ++ rest) (sym (left_first id left there))
+          ∙ c.ids.invariant.all;
+      whole = ap (λ (r : Ids). r.whole) c.in_ok-advance.ensures.ok ∙ c.ids.invariant.whole;
     }
+
+pub ids-smaller : goal.ids-smaller
+ids-smaller c =
+    let there : slice_get c.ids.rest.ids 0 ≡ Some c.in-Some.id = sym c.first.ensures.first ∙ c.in-Some.is in
+    let fewer = fewer_first c.in-Some.id c.ids.rest.ids there in
+    let long = ap (λ (r : Ids). length r.ids) c.in_ok-advance.ensures.ok in
+    omega (arith, fewer, long)
 
 pub returns-clause-ok : goal.returns-clause-ok
 returns-clause-ok c =
-    all_gathered c.args.runs.now c.args.list_runs.now.items c.ids.list_runs.items c.args.list.ids c.ids.rest.ids
-    (λ id e. c.in_default.not-Some id (c.first.ensures.first ∙ e)) c.ids.invariant.all
+    let ends : c.ids.rest.ids ≡ [] = begin_end None c.ids.rest.ids
+    (λ id e. c.in_default.not-Some id (c.first.ensures.first ∙ e)) in
+    sym (append-nil c.ids.ids.items) ∙ ap (λ (rest : List ℕ). c.ids.ids.items ++ rest) (sym ends) ∙ c.ids.invariant.all

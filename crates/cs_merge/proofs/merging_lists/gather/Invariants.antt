@@ -1,10 +1,9 @@
-use Rattle.std.proofs.Common.{◌≡◌, length}
-use Rattle.cs_merge.proofs.Common.{AreGathered}
+use Rattle.std.proofs.Common.{◌≡◌, ◌++◌, length}
 use Rattle.cs_merge.proofs.merging_lists.gather.Given as goal
 
 abbrev pub invariant-ids : goal.invariant-ids
 invariant-ids l = record {
-  all : AreGathered l.runs l.initial.list_runs.items l.list_runs.items l.fn.list.ids l.rest.ids;
+  all : l.ids.items ++ l.rest.ids ≡ l.initial.ids.items ++ l.fn.list.ids;
   whole : l.rest.whole ≡ l.fn.list.whole;
 }
 

@@ -1,29 +1,11 @@
 use Rattle.std.proofs.Common.{◌++◌, ℕ, length, sym, ap, subst, ◌∙◌, inl, inr, arith}
-use Rattle.cs_merge.proofs.Common.{cases_lt, closing_trigram, AscendWithin, Parts, Ids, new_ids_of, AreNewIdsFrom, list_ids, AreDistinctIds, old_ids}
+use Rattle.cs_merge.proofs.Common.{cases_lt, closing_trigram, AscendWithin, Parts, Ids, new_ids_of, list_ids, AreDistinctIds, old_ids}
 use Rattle.cs_merge.proofs.DistinctIdLemmas.{new_ids_of_both}
 use Rattle.cs_merge.proofs.IdMapLemmas.{rise_mapped}
 use Rattle.cs_merge.proofs.OldListLemmas.{closing_in_old, old_rises}
 use Rattle.cs_merge.proofs.NextListLemmas.{closing_has_none, ids_rise}
-use Rattle.cs_merge.proofs.SortedRunLemmas.{rise_under}
 use Rattle.cs_merge.proofs.TrigramMergeLemmas.{mapped_rise}
 use Rattle.cs_merge.proofs.merging_trigrams.merge_trigram.Goals as goal
-
-pub merge_list-requires-clause-older_under : goal.merge_list-requires-clause-older_under
-merge_list-requires-clause-older_under c =
-    let source = c.args.sides.now.older.now in
-    let at = c.args.progress.now in
-    subst (λ (r : Ids). AreNewIdsFrom c.args.sides.now.runs.older 0 r.ids) (sym c.in_ok-older.ensures)
-    (rise_under c.args.sides.now.runs.older (length source.names) 0
-    (old_ids source at.reader at.older c.args.trigram).ids
-    (old_rises source at.reader at.older c.args.trigram))
-
-pub merge_list-requires-clause-newer_under : goal.merge_list-requires-clause-newer_under
-merge_list-requires-clause-newer_under c =
-    let newer : Parts = c.args.sides.now.newer.now in
-    let at = c.args.progress.now in
-    subst (λ (r : Ids). AreNewIdsFrom c.args.sides.now.runs.newer 0 r.ids) (sym c.in_ok-newer.ensures)
-    (rise_under c.args.sides.now.runs.newer (length newer.names) 0 (list_ids newer at.newer c.args.trigram).ids
-    (ids_rise newer at.newer c.args.trigram))
 
 pub merge_list-requires-clause-older_rise : goal.merge_list-requires-clause-older_rise
 merge_list-requires-clause-older_rise c =

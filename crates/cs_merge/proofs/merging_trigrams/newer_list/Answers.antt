@@ -1,4 +1,4 @@
-use Rattle.std.proofs.Common.{ℕ, ◌≤◌, length, sym, ◌∙◌, arith, slice_get}
+use Rattle.std.proofs.Common.{◌≤◌, length, sym, arith, slice_get}
 use Rattle.cs_merge.proofs.Common.{ids_read, max_ids}
 use Rattle.cs_merge.proofs.ReadIdsLemmas.{list_rises}
 use Rattle.cs_merge.proofs.ReadAheadLemmas.{rises_at}

@@ -1,4 +1,4 @@
-use Rattle.std.proofs.Common.{ℕ, ◌≤◌, length, sym, ◌∙◌, arith, slice_get}
+use Rattle.std.proofs.Common.{◌≤◌, length, sym, arith, slice_get}
 use Rattle.cs_merge.proofs.Common.{known_ids, max_ids}
 use Rattle.cs_merge.proofs.OldListLemmas.{entry_rises}
 use Rattle.cs_merge.proofs.ReadAheadLemmas.{rises_at}

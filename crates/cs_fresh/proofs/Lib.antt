@@ -9,6 +9,7 @@ mod ShownLemmas
 mod ScopeLemmas
 mod FoundLemmas
 mod KnowledgeLemmas
+mod NotedLemmas
 mod ProjectLemmas
 mod Examples
 mod CallLemmas

@@ -3,6 +3,7 @@ pub mod Calls
 pub mod Handed
 pub mod Knowledge
 pub mod Names
+pub mod Noted
 pub mod Projects
 pub mod Scopes
 pub mod Searched
@@ -10,3 +11,5 @@ pub mod Sources
 -- Definitions that only private contracts cite.
 pub mod Reports
 pub mod Walked
+-- What the contracts cite, passed on.
+pub mod Cited

@@ -1,10 +1,7 @@
 // What the arguments of `cs` ask for is done.
 ghost use Rattle.std.specs.Prelude.{◌≡◌, ◌≢◌, [], map, slice_index_or, string_bytes, IfOk};
-ghost use Rattle.cs_tree.specs.PathParts.{texts};
-ghost use Rattle.cs_listing.specs.FolderReads.{InTree};
-ghost use Rattle.cs_listing.specs.Models.{chosen_in};
-ghost use Rattle.cs_fresh.specs.Calls.{AnswersRequest, DoesProject, HasBase, IsProgramFor, IsScopeOf, IsSearchFor, ListsFor, SearchesFor, name_end as name_end', words_at as words_at'};
-ghost use Rattle.cs_fresh.specs.Knowledge.{HoldsFor, asked_as};
+ghost use Rattle.cs_fresh.specs.Cited.{texts, InTree, chosen_in, AnswersRequest, DoesProject, HasBase, IsProgramFor, IsScopeOf, IsSearchFor, ListsFor, SearchesFor, HoldsFor, asked_as, NotesSeen};
+ghost use Rattle.cs_fresh.specs.Calls.{name_end as name_end', words_at as words_at'};
 
 use crate::call::ProjectCall;
 use crate::fault::FreshFault;
@@ -35,6 +32,7 @@ struct Base {
 
 /// Does what the arguments of `cs` ask for, and returns the exit status: 2 after an error, else 0
 /// if a line is marked, else 1. Files that are known to print nothing are not read.
+#[tactic(auto, using(crate::proofs::NotedLemmas::notes_more))]
 pub fn run_project<T: Look, K: Knowledge, O: Output, E: Sink>(
     call: &ProjectCall<'_>,
     tree: &mut T,
@@ -46,6 +44,7 @@ pub fn run_project<T: Look, K: Knowledge, O: Output, E: Sink>(
         (λ items. DoesProject (HoldsFor (K.Holds known.old) T.stamps (T.snapshot tree.old)) items call.now
         (O.given out.old) (O.given out.new) status)) }
     ensures keeps { T.snapshot tree.new ≡ T.snapshot tree.old }
+    ensures notes { NotesSeen T.stamps (T.snapshot tree.old) (K.noted known.old) (K.noted known.new) }
 {
     let base = base_of(call, tree, err)?;
     match read_request(call.alloc, base.choices, call.words) {
@@ -103,6 +102,7 @@ fn refuse<E: Sink>(
 }
 
 /// Does what is asked for.
+#[tactic(auto, using(crate::proofs::NotedLemmas::notes_more))]
 fn answer<T: Look, K: Knowledge, O: Output, E: Sink>(
     call: &ProjectCall<'_>,
     request: &Request,
@@ -115,6 +115,7 @@ fn answer<T: Look, K: Knowledge, O: Output, E: Sink>(
         (λ items. AnswersRequest (HoldsFor (K.Holds known.old) T.stamps (T.snapshot tree.old)) items call.now
         request.now (O.given out.old) (O.given out.new) status)) }
     ensures keeps { T.snapshot tree.new ≡ T.snapshot tree.old }
+    ensures notes { NotesSeen T.stamps (T.snapshot tree.old) (K.noted known.old) (K.noted known.new) }
 {
     match request.switches.task {
         Task::Help => Ok(print(HELP.as_bytes(), out)?),
@@ -199,7 +200,7 @@ fn name_end(request: &Request) -> &'static [u8]
 }
 
 /// Prints the names of the files, and asks for each of them whether it is known.
-#[tactic(auto, using(crate::proofs::CallLemmas::lists_for))]
+#[tactic(auto, using(crate::proofs::CallLemmas::lists_for, crate::proofs::NotedLemmas::notes_more))]
 fn list<T: Look, K: Knowledge, O: Output, E: Sink>(
     call: &ProjectCall<'_>,
     request: &Request,
@@ -211,6 +212,7 @@ fn list<T: Look, K: Knowledge, O: Output, E: Sink>(
     ensures lists { IfOk result (λ status. InTree (T.snapshot tree.old)
         (λ items. ListsFor items call.now request.now (O.given out.old) (O.given out.new) status)) }
     ensures keeps { T.snapshot tree.new ≡ T.snapshot tree.old }
+    ensures notes { NotesSeen T.stamps (T.snapshot tree.old) (K.noted known.old) (K.noted known.new) }
 {
     let words = words_at(call.alloc, call.words, &request.paths)?;
     let scope = scope_of(call, request, &words);
@@ -228,6 +230,7 @@ fn update<T: Look, K: Knowledge, E: Sink>(
     ensures status { IfOk result (λ status. InTree (T.snapshot tree.old)
         (λ items. status ≢ 2 → status ≡ 0)) }
     ensures keeps { T.snapshot tree.new ≡ T.snapshot tree.old }
+    ensures notes { NotesSeen T.stamps (T.snapshot tree.old) (K.noted known.old) (K.noted known.new) }
 {
     if request.updates {
         known.begin_update(request.paths.is_empty())?;
@@ -271,6 +274,7 @@ fn asked_options(silent: bool, files: &FileSearch<'_>) -> ShowOptions
 }
 
 /// Searches the files. With `-q` only the status says whether a line is marked.
+#[tactic(auto, using(crate::proofs::NotedLemmas::notes_more, crate::proofs::NotedLemmas::notes_nothing))]
 fn search<T: Look, K: Knowledge, O: Output, E: Sink>(
     call: &ProjectCall<'_>,
     request: &Request,
@@ -283,6 +287,7 @@ fn search<T: Look, K: Knowledge, O: Output, E: Sink>(
         (λ items. SearchesFor (HoldsFor (K.Holds known.old) T.stamps (T.snapshot tree.old)) items call.now
         request.now request.now.switches.silent (O.given out.old) (O.given out.new) status)) }
     ensures keeps { T.snapshot tree.new ≡ T.snapshot tree.old }
+    ensures notes { NotesSeen T.stamps (T.snapshot tree.old) (K.noted known.old) (K.noted known.new) }
 {
     let Some(pattern) = &request.pattern else {
         return refuse(call, RequestFault::NoPattern, err);

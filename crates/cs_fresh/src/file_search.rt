@@ -1,10 +1,6 @@
 // The search of one file after another.
 ghost use Rattle.std.specs.Prelude.{◌≡◌, ◌≤◌, ◌∷◌, ◌||◌, [], true, false, string_bytes, IfOk, OnOk};
-ghost use Rattle.cs_listing.specs.FolderReads.{InTree};
-ghost use Rattle.cs_listing.specs.Stamps.{InStamps};
-ghost use Rattle.cs_fresh.specs.Knowledge.{HoldsAsBefore, HoldsFor};
-ghost use Rattle.cs_fresh.specs.Searched.{KeepsForm, ShowsItems, binary_as, is_done};
-ghost use Rattle.cs_fresh.specs.Sources.{FindsAmong, FindsInSource, IsStatusOf, ShowsSource};
+ghost use Rattle.cs_fresh.specs.Cited.{InTree, InStamps, HoldsAsBefore, HoldsFor, KeepsForm, ShowsItems, binary_as, is_done, FindsAmong, FindsInSource, IsStatusOf, ShowsSource, NotesSeen};
 
 use crate::fault::FreshFault;
 use crate::knowledge::Knowledge;
@@ -156,6 +152,7 @@ impl<'p> FileSearch<'p> {
         ensures same { KeepsForm self.old self.new }
         ensures holds { HoldsAsBefore (K.Holds known.old) (K.Holds known.new) }
         ensures keeps { T.snapshot tree.new ≡ T.snapshot tree.old }
+        ensures notes { NotesSeen T.stamps (T.snapshot tree.old) (K.noted known.old) (K.noted known.new) }
     {
         if known.skips(file.path.as_str(), file.stamp)? {
             return Ok(());

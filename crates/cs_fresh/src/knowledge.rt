@@ -1,6 +1,7 @@
 // What is known of files without reading them.
-ghost use Rattle.std.specs.Prelude.{IfOk, OnOk};
+ghost use Rattle.std.specs.Prelude.{[], List, IfOk, OnOk};
 ghost use Rattle.cs_fresh.specs.Knowledge.{HoldsAsBefore, HoldsIfAsked, SearchedTree, SkipsNothingShown};
+ghost use Rattle.cs_fresh.specs.Noted.{NotedFile, NotesNothing, NotesStamp};
 
 use cs_project::ShowOptions;
 use cs_syntax::Pattern;
@@ -25,19 +26,25 @@ pub trait Knowledge {
     /// What the knowledge holds for: a search of a tree.
     ghost Holds: { Self → SearchedTree → Type 0 };
 
+    /// The files that are noted, since they are not known, each with the stamp that was seen.
+    ghost noted: { Self → List NotedFile };
+
     /// Prepares for a search.
     fn begin(&mut self, asked: &AskedSearch<'_>) -> Result<(), AllocError>
-        ensures begun { OnOk result (HoldsIfAsked asked.now (Holds self.old) (Holds self.new)) };
+        ensures begun { OnOk result (HoldsIfAsked asked.now (Holds self.old) (Holds self.new)) }
+        ensures notes { NotesNothing (noted self.old) (noted self.new) };
 
     /// Prepares for a walk that searches nothing, so that the files that are not known are learned.
     /// `whole` says whether it gives all files below the current folder.
-    fn begin_update(&mut self, whole: bool) -> Result<(), AllocError>;
+    fn begin_update(&mut self, whole: bool) -> Result<(), AllocError>
+        ensures notes { NotesNothing (noted self.old) (noted self.new) };
 
     /// Whether the file at a path is skipped, since nothing is printed for it. Its stamp is the one
     /// that it has now.
     fn skips(&mut self, path: &str, stamp: Option<Stamp>) -> Result<bool, AllocError>
         ensures skips { IfOk result (SkipsNothingShown (Holds self.old) path.now stamp) }
-        ensures holds { HoldsAsBefore (Holds self.old) (Holds self.new) };
+        ensures holds { HoldsAsBefore (Holds self.old) (Holds self.new) }
+        ensures notes { NotesStamp path.now stamp (noted self.old) (noted self.new) };
 }
 
 /// Nothing is known, so no file is skipped.
@@ -46,6 +53,8 @@ pub struct NoKnowledge;
 
 impl Knowledge for NoKnowledge {
     ghost Holds = { λ _ _. Unit {0} };
+
+    ghost noted = { λ _. [] };
 
     fn begin(&mut self, _asked: &AskedSearch<'_>) -> Result<(), AllocError> {
         Ok(())

@@ -2,7 +2,8 @@
 //! printed for items one after another. `specs/Scopes.antt` says which items a search has, by the
 //! words of a command line, `specs/Names.antt` the names that they are printed with, and
 //! `specs/Projects.antt` what a whole search prints, and its exit status. `specs/Knowledge.antt`
-//! says what may be known of files without reading them.
+//! says what may be known of files without reading them, and `specs/Noted.antt` what is noted of
+//! those that are not known.
 //!
 //! A `Scope` is the current folder, the words that name files and folders, and which files below a
 //! folder are searched. A word is looked up when its turn comes. A `FolderWalk` gives the files

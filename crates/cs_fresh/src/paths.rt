@@ -1,14 +1,8 @@
 // The paths that the words of a command line lead to.
 ghost use Rattle.std.specs.Prelude.{◌≡◌, ◌∷◌, [], true, map, string_bytes, IfOk, IfSome};
 ghost use Rattle.std.specs.Path.{slash};
-ghost use Rattle.cs_tree.specs.Clean.{absolute};
-ghost use Rattle.cs_tree.specs.CleanAnswers.{CleanAnswers};
-ghost use Rattle.cs_tree.specs.Cleaning.{clean_fault};
+ghost use Rattle.cs_fresh.specs.Cited.{absolute, CleanAnswers, clean_fault, InTree, path_text, is_folder, is_straight, path_in, StepsTo};
 ghost use Rattle.cs_tree.specs.Cover.{is_absolute as is_absolute'};
-ghost use Rattle.cs_listing.specs.FolderReads.{InTree};
-ghost use Rattle.cs_listing.specs.Walk.{path_text};
-ghost use Rattle.cs_fresh.specs.Scopes.{is_folder, is_straight, path_in};
-ghost use Rattle.cs_fresh.specs.Walked.{StepsTo};
 
 use cs_listing::path_names;
 use cs_tree::{Kind, Look, PathFault, TreeFault, clean, is_absolute};

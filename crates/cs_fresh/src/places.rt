@@ -1,14 +1,6 @@
 // What the words of a command line name: folders and files.
 ghost use Rattle.std.specs.Prelude.{◌≡◌, ◌++◌, false, string_bytes, IfOk, OnOk};
-ghost use Rattle.cs_tree.specs.Snapshot.{other};
-ghost use Rattle.cs_listing.specs.FolderReads.{InTree};
-ghost use Rattle.cs_listing.specs.Models.{chosen_in};
-ghost use Rattle.cs_listing.specs.Stamps.{AreStamped, InStamps};
-ghost use Rattle.cs_fresh.specs.Knowledge.{HoldsAsBefore, HoldsFor};
-ghost use Rattle.cs_fresh.specs.Scopes.{AreFilesBelow, AreNamed, ForItems, IsFileBelow, IsNamed, names_folder, operand};
-ghost use Rattle.cs_fresh.specs.Searched.{IsWhole, KeepsForm, ShowsItems, is_done, names_printed};
-ghost use Rattle.cs_fresh.specs.Sources.{FindsAmong};
-ghost use Rattle.cs_fresh.specs.Walked.{IsKindAt, IsWordPath, KeepsListing, WalksFolder};
+ghost use Rattle.cs_fresh.specs.Cited.{other, InTree, chosen_in, AreStamped, InStamps, HoldsAsBefore, HoldsFor, AreFilesBelow, AreNamed, ForItems, IsFileBelow, IsNamed, names_folder, operand, IsWhole, KeepsForm, ShowsItems, is_done, names_printed, FindsAmong, IsKindAt, IsWordPath, KeepsListing, WalksFolder, NotesSeen};
 
 use crate::fault::FreshFault;
 use crate::file_search::FileSearch;
@@ -148,6 +140,7 @@ impl<'a> NamedFolder<'_, 'a> {
     }
 
     /// Searches the files below the folder.
+    #[tactic(auto, using(crate::proofs::NotedLemmas::notes_more))]
     pub(crate) fn search<T: Look, K: Knowledge, O: Output, E: Sink>(
         &self,
         search: &mut FileSearch<'_>,
@@ -168,6 +161,7 @@ impl<'a> NamedFolder<'_, 'a> {
         ensures same { KeepsForm search.old search.new }
         ensures holds { HoldsAsBefore (K.Holds known.old) (K.Holds known.new) }
         ensures keeps { T.snapshot tree.new ≡ T.snapshot tree.old }
+        ensures notes { NotesSeen T.stamps (T.snapshot tree.old) (K.noted known.old) (K.noted known.new) }
     {
         // What a walk gives is what a search of the folder lists.
         gives_in_order();
@@ -176,6 +170,7 @@ impl<'a> NamedFolder<'_, 'a> {
     }
 
     /// Prints the names of the files below the folder.
+    #[tactic(auto, using(crate::proofs::NotedLemmas::notes_more))]
     pub(crate) fn list<T: Look, K: Knowledge, O: Output, E: Sink>(
         &self,
         listing: &mut NameListing<'_>,
@@ -190,6 +185,7 @@ impl<'a> NamedFolder<'_, 'a> {
             (λ named. O.given out.new ≡ O.given out.old ++ names_printed listing.old.end.now named))) }
         ensures same { KeepsListing listing.old listing.new }
         ensures keeps { T.snapshot tree.new ≡ T.snapshot tree.old }
+        ensures notes { NotesSeen T.stamps (T.snapshot tree.old) (K.noted known.old) (K.noted known.new) }
     {
         gives_in_order();
         let mut walk = self.walk(tree)?;
@@ -199,6 +195,7 @@ impl<'a> NamedFolder<'_, 'a> {
 
 impl ScopeWord<'_, '_> {
     /// Searches what the word names.
+    #[tactic(auto, using(crate::proofs::NotedLemmas::notes_more))]
     pub(crate) fn search<T: Look, K: Knowledge, O: Output, E: Sink>(
         &self,
         search: &mut FileSearch<'_>,
@@ -219,6 +216,7 @@ impl ScopeWord<'_, '_> {
         ensures same { KeepsForm search.old search.new }
         ensures holds { HoldsAsBefore (K.Holds known.old) (K.Holds known.new) }
         ensures keeps { T.snapshot tree.new ≡ T.snapshot tree.old }
+        ensures notes { NotesSeen T.stamps (T.snapshot tree.old) (K.noted known.old) (K.noted known.new) }
     {
         let named = self.scope.named(tree, self.word)?;
         match named.kind {
@@ -236,6 +234,7 @@ impl ScopeWord<'_, '_> {
     }
 
     /// Prints the names of the files that the word names.
+    #[tactic(auto, using(crate::proofs::NotedLemmas::notes_more))]
     pub(crate) fn list<T: Look, K: Knowledge, O: Output, E: Sink>(
         &self,
         listing: &mut NameListing<'_>,
@@ -250,6 +249,7 @@ impl ScopeWord<'_, '_> {
             (λ named. O.given out.new ≡ O.given out.old ++ names_printed listing.old.end.now named))) }
         ensures same { KeepsListing listing.old listing.new }
         ensures keeps { T.snapshot tree.new ≡ T.snapshot tree.old }
+        ensures notes { NotesSeen T.stamps (T.snapshot tree.old) (K.noted known.old) (K.noted known.new) }
     {
         let named = self.scope.named(tree, self.word)?;
         match named.kind {

@@ -1,14 +1,6 @@
 // The search of a project, and the listing of its files.
 ghost use Rattle.std.specs.Prelude.{◌≡◌, ◌++◌, ◌≤◌, [], false, true, IfOk, OnOk};
-ghost use Rattle.cs_tree.specs.PathParts.{texts};
-ghost use Rattle.cs_listing.specs.FolderReads.{InTree};
-ghost use Rattle.cs_listing.specs.Models.{chosen_in};
-ghost use Rattle.cs_fresh.specs.Knowledge.{HoldsAsBefore, HoldsFor, by_names};
-ghost use Rattle.cs_fresh.specs.Scopes.{AreAllNamed, AreItemsOf, ForItems, IsAnyNamed, IsItemOf, are_several};
-ghost use Rattle.cs_fresh.specs.Searched.{IsWhole, KeepsForm, ShowsItems, names_printed};
-ghost use Rattle.cs_fresh.specs.Sources.{FindsAmong};
-ghost use Rattle.cs_fresh.specs.Walked.{KeepsListing};
-ghost use Rattle.cs_fresh.specs.Projects.{FindsInProject, ListsProject, SearchesProject};
+ghost use Rattle.cs_fresh.specs.Cited.{texts, InTree, chosen_in, HoldsAsBefore, HoldsFor, by_names, AreAllNamed, AreItemsOf, ForItems, IsAnyNamed, IsItemOf, are_several, IsWhole, KeepsForm, ShowsItems, names_printed, FindsAmong, KeepsListing, FindsInProject, ListsProject, SearchesProject, NotesSeen};
 
 use crate::fault::FreshFault;
 use crate::file_search::FileSearch;
@@ -25,6 +17,7 @@ use std::alloc::AllocError;
 
 /// Searches the items of a scope, and returns the exit status: 2 after an error, or if not all
 /// matches of a line were found; else 0 if a line is marked, or else 1.
+#[tactic(auto, using(crate::proofs::NotedLemmas::notes_more))]
 pub fn search_project<T: Look, K: Knowledge, O: Output, E: Sink>(
     scope: &Scope<'_>,
     mut search: FileSearch<'_>,
@@ -39,6 +32,7 @@ pub fn search_project<T: Look, K: Knowledge, O: Output, E: Sink>(
         (O.given out.old) (O.given out.new) status)) }
     ensures status { IfOk result (λ status. status ≤ 2) }
     ensures keeps { T.snapshot tree.new ≡ T.snapshot tree.old }
+    ensures notes { NotesSeen T.stamps (T.snapshot tree.old) (K.noted known.old) (K.noted known.new) }
 {
     search.quick = false;
     scope.search(&mut search, tree, known, out, err)?;
@@ -48,6 +42,7 @@ pub fn search_project<T: Look, K: Knowledge, O: Output, E: Sink>(
 /// Searches the items of a scope up to the first marked line, prints only errors, and returns the
 /// exit status: 0 if a line is marked, even after an error; else 2 after an error, or else 1. It
 /// does not matter whether a line was marked before.
+#[tactic(auto, using(crate::proofs::NotedLemmas::notes_more))]
 pub fn find_in_project<T: Look, K: Knowledge, E: Sink>(
     scope: &Scope<'_>,
     mut search: FileSearch<'_>,
@@ -60,6 +55,7 @@ pub fn find_in_project<T: Look, K: Knowledge, E: Sink>(
         InTree (T.snapshot tree.old) (λ items. FindsInProject items scope.now search.entry status)) }
     ensures status { IfOk result (λ status. status ≤ 2) }
     ensures keeps { T.snapshot tree.new ≡ T.snapshot tree.old }
+    ensures notes { NotesSeen T.stamps (T.snapshot tree.old) (K.noted known.old) (K.noted known.new) }
 {
     search.quick = true;
     search.marked = false;
@@ -74,6 +70,7 @@ pub fn find_in_project<T: Look, K: Knowledge, E: Sink>(
 
 /// Prints the names of the items of a scope, each with what ends it, and returns the exit status: 2
 /// after an error, or else 0. For each file of a walk it asks whether it is known.
+#[tactic(auto, using(crate::proofs::NotedLemmas::notes_more))]
 pub fn list_project<T: Look, K: Knowledge, O: Output, E: Sink>(
     scope: &Scope<'_>,
     end: &[u8],
@@ -86,6 +83,7 @@ pub fn list_project<T: Look, K: Knowledge, O: Output, E: Sink>(
         (λ items. ListsProject items scope.now end.now (O.given out.old) (O.given out.new) status)) }
     ensures status { IfOk result (λ status. status ≤ 2) }
     ensures keeps { T.snapshot tree.new ≡ T.snapshot tree.old }
+    ensures notes { NotesSeen T.stamps (T.snapshot tree.old) (K.noted known.old) (K.noted known.new) }
 {
     let mut listing = NameListing {
         end,
@@ -136,6 +134,7 @@ impl<'a> Scope<'a> {
     }
 
     /// Searches the items one after another.
+    #[tactic(auto, using(crate::proofs::NotedLemmas::notes_more))]
     fn search<T: Look, K: Knowledge, O: Output, E: Sink>(
         &self,
         search: &mut FileSearch<'_>,
@@ -153,6 +152,7 @@ impl<'a> Scope<'a> {
         ensures same { KeepsForm search.old search.new }
         ensures holds { HoldsAsBefore (K.Holds known.old) (K.Holds known.new) }
         ensures keeps { T.snapshot tree.new ≡ T.snapshot tree.old }
+        ensures notes { NotesSeen T.stamps (T.snapshot tree.old) (K.noted known.old) (K.noted known.new) }
     {
         if self.words.is_empty() {
             return self.here().search(search, tree, known, out, err);
@@ -161,6 +161,7 @@ impl<'a> Scope<'a> {
     }
 
     /// Searches what the words name.
+    #[tactic(auto, using(crate::proofs::NotedLemmas::notes_more))]
     fn search_words<T: Look, K: Knowledge, O: Output, E: Sink>(
         &self,
         search: &mut FileSearch<'_>,
@@ -181,6 +182,7 @@ impl<'a> Scope<'a> {
         ensures same { KeepsForm search.old search.new }
         ensures holds { HoldsAsBefore (K.Holds known.old) (K.Holds known.new) }
         ensures keeps { T.snapshot tree.new ≡ T.snapshot tree.old }
+        ensures notes { NotesSeen T.stamps (T.snapshot tree.old) (K.noted known.old) (K.noted known.new) }
     {
         'words: for word in self.words {
             let named = ScopeWord { scope: *self, word };
@@ -193,6 +195,7 @@ impl<'a> Scope<'a> {
     }
 
     /// Prints the names of the items one after another.
+    #[tactic(auto, using(crate::proofs::NotedLemmas::notes_more))]
     fn list<T: Look, K: Knowledge, O: Output, E: Sink>(
         &self,
         listing: &mut NameListing<'_>,
@@ -206,6 +209,7 @@ impl<'a> Scope<'a> {
             (λ named. O.given out.new ≡ O.given out.old ++ names_printed listing.old.end.now named))) }
         ensures same { KeepsListing listing.old listing.new }
         ensures keeps { T.snapshot tree.new ≡ T.snapshot tree.old }
+        ensures notes { NotesSeen T.stamps (T.snapshot tree.old) (K.noted known.old) (K.noted known.new) }
     {
         if self.words.is_empty() {
             return self.here().list(listing, tree, known, out, err);
@@ -214,6 +218,7 @@ impl<'a> Scope<'a> {
     }
 
     /// Prints the names of what the words name.
+    #[tactic(auto, using(crate::proofs::NotedLemmas::notes_more))]
     fn list_words<T: Look, K: Knowledge, O: Output, E: Sink>(
         &self,
         listing: &mut NameListing<'_>,
@@ -228,6 +233,7 @@ impl<'a> Scope<'a> {
             (λ named. O.given out.new ≡ O.given out.old ++ names_printed listing.old.end.now named))) }
         ensures same { KeepsListing listing.old listing.new }
         ensures keeps { T.snapshot tree.new ≡ T.snapshot tree.old }
+        ensures notes { NotesSeen T.stamps (T.snapshot tree.old) (K.noted known.old) (K.noted known.new) }
     {
         'words: for word in self.words {
             let named = ScopeWord { scope: *self, word };

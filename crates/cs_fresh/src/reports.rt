@@ -1,7 +1,6 @@
 // The lines of errors.
 ghost use Rattle.std.specs.Prelude.{◌≡◌, ◌≤◌, true, false, OnOk};
-ghost use Rattle.cs_project.specs.Project.{status_by};
-ghost use Rattle.cs_fresh.specs.Reports.{MayReport};
+ghost use Rattle.cs_fresh.specs.Cited.{status_by, MayReport};
 
 use crate::fault::FreshFault;
 use cs_listing::{ListFault, Unread};

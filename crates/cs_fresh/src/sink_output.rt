@@ -1,7 +1,6 @@
 // A sink as an output.
 ghost use Rattle.std.specs.Prelude.{◌≡◌, ℕ, List, [], None, OnOk};
-ghost use Rattle.cs_tree.specs.Sinks.{Flushes};
-ghost use Rattle.cs_fresh.specs.Handed.{HandsBytes, HasHanded};
+ghost use Rattle.cs_fresh.specs.Cited.{Flushes, HandsBytes, HasHanded};
 
 use cs_output::{Output, Sent};
 use cs_tree::{IoFault, Sink, write_all};

@@ -1,12 +1,6 @@
 // The files below a folder, one after another.
 ghost use Rattle.std.specs.Prelude.{◌≡◌, ◌<◌, ◌++◌, false, IsSome, IfOk, OnOk};
-ghost use Rattle.cs_listing.specs.FolderReads.{InTree};
-ghost use Rattle.cs_listing.specs.Stamps.{AreStamped, InStamps};
-ghost use Rattle.cs_listing.specs.Walk.{IsWalkIn, walk_weight};
-ghost use Rattle.cs_fresh.specs.Knowledge.{HoldsAsBefore, HoldsFor};
-ghost use Rattle.cs_fresh.specs.Searched.{KeepsForm, ShowsItems, is_done, names_printed};
-ghost use Rattle.cs_fresh.specs.Sources.{FindsAmong};
-ghost use Rattle.cs_fresh.specs.Walked.{GivesFile, GivesStampedFile, IsLeft, KeepsListing, TakesAll};
+ghost use Rattle.cs_fresh.specs.Cited.{InTree, AreStamped, InStamps, IsWalkIn, walk_weight, HoldsAsBefore, HoldsFor, KeepsForm, ShowsItems, is_done, names_printed, FindsAmong, GivesFile, GivesStampedFile, IsLeft, KeepsListing, TakesAll, NotesSeen};
 
 use crate::fault::FreshFault;
 use crate::file_search::FileSearch;
@@ -80,6 +74,7 @@ impl FolderWalk<'_> {
     }
 
     /// Searches the files that are left to the walk, in the order of their paths.
+    #[tactic(auto, using(crate::proofs::NotedLemmas::notes_more))]
     pub(crate) fn search<T: Look, K: Knowledge, O: Output, E: Sink>(
         &mut self,
         search: &mut FileSearch<'_>,
@@ -99,6 +94,7 @@ impl FolderWalk<'_> {
         ensures same { KeepsForm search.old search.new }
         ensures holds { HoldsAsBefore (K.Holds known.old) (K.Holds known.new) }
         ensures keeps { T.snapshot tree.new ≡ T.snapshot tree.old }
+        ensures notes { NotesSeen T.stamps (T.snapshot tree.old) (K.noted known.old) (K.noted known.new) }
     {
         'files: while let Some(file) = self.next(tree, &mut search.reports, err)? {
             search.show_met(&file, tree, known, out, err)?;
@@ -119,11 +115,13 @@ impl FolderWalk<'_> {
         out: &mut O,
         err: &mut E,
     ) -> Result<(), FreshFault>
+        requires { InStamps (T.snapshot tree.old) T.stamps (λ stamps. AreStamped stamps self.old.walk) }
         ensures listed { OnOk result (InTree (T.snapshot tree.old)
             (λ items. IsWalkIn items self.old.walk → TakesAll items self.old
             (λ named. O.given out.new ≡ O.given out.old ++ names_printed listing.old.end.now named))) }
         ensures same { KeepsListing listing.old listing.new }
         ensures keeps { T.snapshot tree.new ≡ T.snapshot tree.old }
+        ensures notes { NotesSeen T.stamps (T.snapshot tree.old) (K.noted known.old) (K.noted known.new) }
     {
         'files: while let Some(file) = self.next(tree, &mut listing.reports, err)? {
             let _ = known.skips(file.path.as_str(), file.stamp)?;

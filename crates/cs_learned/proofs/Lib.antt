@@ -1,4 +1,6 @@
 mod Examples
 mod FreshLemmas
 mod KnownProjectLemmas
+mod LaterLemmas
+mod NotedLemmas
 mod StateKnowledgeLemmas

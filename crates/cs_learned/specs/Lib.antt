@@ -1,4 +1,6 @@
 -- Definitions that public contracts cite.
 pub mod Fresh
 pub mod KnownProjects
+pub mod LaterSearches
+pub mod NotedFiles
 pub mod ClosedStates

@@ -1,7 +1,9 @@
 // What a state knows of a project, as the knowledge of a search.
-ghost use Rattle.std.specs.Prelude.{◌≡◌, IfOk, string_bytes};
+ghost use Rattle.std.specs.Prelude.{◌≡◌, ◌++◌, [], Some, IfOk, string_bytes};
 ghost use Rattle.cs_fresh.specs.Knowledge.{SkipsNothingShown};
+ghost use Rattle.cs_fresh.specs.Noted.{NotesStamp};
 ghost use Rattle.cs_learned.specs.KnownProjects.{IsFoundIn, IsKnownFor, KeepsFiles};
+ghost use Rattle.cs_learned.specs.NotedFiles.{noted_in};
 
 use cs_known::laws::a_skipped_path_prints_nothing;
 use cs_known::{FileLookup, KnownFiles, SeenFile};
@@ -30,6 +32,7 @@ impl<I, B> KnownProject<I, B> {
     ) -> KnownProject<I, B>
         ensures root { result.root ≡ root }
         ensures files { result.files ≡ files }
+        ensures noted { result.unknown.items ≡ [] }
     {
         KnownProject {
             alloc,
@@ -43,6 +46,8 @@ impl<I, B> KnownProject<I, B> {
     fn note(&mut self, name: &str, stamp: Stamp) -> Result<(), AllocError>
         ensures files { self.new.files ≡ self.old.files }
         ensures root { self.new.root ≡ self.old.root }
+        ensures notes { NotesStamp (string_bytes self.old.root ++ name.now) (Some stamp)
+            (noted_in self.old) (noted_in self.new) }
     {
         if let Some(last) = self.unknown.last() {
             if last.name.as_str() >= name {
@@ -61,6 +66,7 @@ impl<I: Store, B: Store> KnownProject<I, B> {
         ensures found { IfOk result (IsFoundIn I.model B.model self.old.files name.now stamp.now) }
         ensures keeps { KeepsFiles I.model B.model self.old.files self.new.files }
         ensures root { self.new.root ≡ self.old.root }
+        ensures noted { self.new.unknown ≡ self.old.unknown }
     {
         match &mut self.files {
             Some(files) => files.find(name, stamp),
@@ -77,6 +83,7 @@ impl<I: Store, B: Store> KnownProject<I, B> {
             (IsKnownFor I.model B.model (string_bytes self.old.root) self.old.files) path.now stamp) }
         ensures keeps { KeepsFiles I.model B.model self.old.files self.new.files }
         ensures root { self.new.root ≡ self.old.root }
+        ensures notes { NotesStamp path.now stamp (noted_in self.old) (noted_in self.new) }
     {
         a_skipped_path_prints_nothing();
         let Some(stamp) = stamp else {

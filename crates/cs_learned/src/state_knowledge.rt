@@ -1,9 +1,11 @@
 // The state file of a project as the knowledge of a search.
-ghost use Rattle.std.specs.Prelude.{◌≡◌, ℕ, List, false, IfOk, IfSome, string_bytes};
+ghost use Rattle.std.specs.Prelude.{◌≡◌, ℕ, List, [], false, IfOk, IfSome, string_bytes};
 ghost use Rattle.cs_fresh.specs.Knowledge.{HoldsAsBefore, SearchedTree};
+ghost use Rattle.cs_fresh.specs.Noted.{NotesNothing};
 ghost use Rattle.cs_fresh.specs.Searched.{binary_as};
 ghost use Rattle.cs_learned.specs.ClosedStates.{AsksFor, IsPreparedFor, IsStillKnown, IsUnread};
 ghost use Rattle.cs_learned.specs.KnownProjects.{AreKnownFor};
+ghost use Rattle.cs_learned.specs.NotedFiles.{AreSeenBelow, noted_in};
 
 use crate::closed_state::{ClosedState, PreparedState};
 use crate::known_project::KnownProject;
@@ -43,6 +45,7 @@ impl<S: Store + Drop> StateKnowledge<S> {
     pub fn new(alloc: Global, root: String, closed: Option<ClosedState<S>>) -> StateKnowledge<S>
         ensures root { result.known.root ≡ root }
         ensures closed { result.closed ≡ closed }
+        ensures noted { ⟦<StateKnowledge<S> as Knowledge>⟧.noted result ≡ [] }
     {
         StateKnowledge {
             alloc,
@@ -77,8 +80,19 @@ impl<S: Store + Drop> StateKnowledge<S> {
         self.learns && self.is_whole && texts > found.saturating_mul(2).saturating_add(1000)
     }
 
+    /// The folder of the project.
+    pub fn root(&self) -> &str
+        ensures { result.now ≡ string_bytes self.now.known.root }
+    {
+        self.known.root.as_str()
+    }
+
     /// The files that are to be learned, by ascending names.
-    pub fn unknown(&self) -> &[SeenFile] {
+    #[tactic(auto, using(crate::proofs::NotedLemmas::seen_below))]
+    pub fn unknown(&self) -> &[SeenFile]
+        ensures seen { AreSeenBelow (string_bytes self.now.known.root)
+            (⟦<StateKnowledge<S> as Knowledge>⟧.noted self.now) result.now }
+    {
         if self.is_update || (self.learns && self.met >= FEW) {
             &self.known.unknown
         } else {
@@ -104,8 +118,10 @@ impl<S: Store + Drop> StateKnowledge<S> {
 
     /// Opens the file. What the search has met before is read, so it need not be known.
     fn open(&mut self) -> Result<(), AllocError>
-        ensures { HoldsAsBefore (⟦<StateKnowledge<S> as Knowledge>⟧.Holds self.old)
+        ensures holds { HoldsAsBefore (⟦<StateKnowledge<S> as Knowledge>⟧.Holds self.old)
             (⟦<StateKnowledge<S> as Knowledge>⟧.Holds self.new) }
+        ensures notes { NotesNothing (⟦<StateKnowledge<S> as Knowledge>⟧.noted self.old)
+            (⟦<StateKnowledge<S> as Knowledge>⟧.noted self.new) }
     {
         let Some(prepared) = self.prepared.take() else {
             return Ok(());
@@ -119,8 +135,10 @@ impl<S: Store + Drop> StateKnowledge<S> {
 
     /// Counts a file. The last of a few files opens the state.
     fn meet(&mut self) -> Result<(), AllocError>
-        ensures { HoldsAsBefore (⟦<StateKnowledge<S> as Knowledge>⟧.Holds self.old)
+        ensures holds { HoldsAsBefore (⟦<StateKnowledge<S> as Knowledge>⟧.Holds self.old)
             (⟦<StateKnowledge<S> as Knowledge>⟧.Holds self.new) }
+        ensures notes { NotesNothing (⟦<StateKnowledge<S> as Knowledge>⟧.noted self.old)
+            (⟦<StateKnowledge<S> as Knowledge>⟧.noted self.new) }
     {
         self.met = self.met.saturating_add(1);
         if self.met == FEW {
@@ -166,6 +184,8 @@ impl<S: Store + Drop> Knowledge for StateKnowledge<S> {
     ghost Holds = { λ k tree. IsStillKnown S.model ⟦<FirstBytes<SummedBytes<S>> as Store>⟧.model
         ⟦<SummedBytes<S> as Store>⟧.model (string_bytes k.known.root) k.closed k.prepared
         k.known.files tree };
+
+    ghost noted = { λ k. noted_in k.known };
 
     fn begin(&mut self, asked: &AskedSearch<'_>) -> Result<(), AllocError> {
         self.learns = asked.updates;

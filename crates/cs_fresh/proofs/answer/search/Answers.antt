@@ -47,3 +47,11 @@ returns-clause-searches g c =
     c.scope_of-scope.result files _ false c.in_ok-files.ensures.keeps c.in_ok-files.ensures.files c.in-Some.is
     (c.asked_options.ensures ∙ ap (λ silent. (asked_as silent files).options) c.if-request.false) refl c.in_ok-begin.ensures.begun known))
     c.search_project.ensures.searched))
+
+pub returns-then-request-clause-notes : goal.returns-then-request-clause-notes
+returns-then-request-clause-notes g c tree is seen =
+    c.find_in_project.ensures.notes tree (c.in_ok-files.ensures.keeps ∙ is) (c.begin.ensures.notes (g.T.Look.stamps tree) seen)
+
+pub returns-clause-notes : goal.returns-clause-notes
+returns-clause-notes g c tree is seen =
+    c.search_project.ensures.notes tree (c.in_ok-files.ensures.keeps ∙ is) (c.begin.ensures.notes (g.T.Look.stamps tree) seen)

@@ -6,6 +6,7 @@ use Rattle.cs_fresh.specs.Searched.{ShowsItems}
 use Rattle.cs_fresh.specs.Sources.{FindsAmong}
 use Rattle.cs_fresh.proofs.FileLemmas.{on_ok}
 use Rattle.cs_fresh.proofs.KnowledgeLemmas.{skipped}
+use Rattle.cs_fresh.proofs.NotedLemmas.{notes_stamp}
 use Rattle.cs_fresh.proofs.file_search.FileSearch.show_met.Goals as goal
 
 pub returns-then-branch-clause-shown : goal.returns-then-branch-clause-shown
@@ -42,3 +43,18 @@ returns-clause-found g c =
     (subst (λ path. InTree tree (λ items. FindsAmong c.args.self.now new (λ one. one ≡ (c.as_str-3.result.now, items path, false))))
     c.as_str-2.ensures.value has))
     c.show_file.ensures.found
+
+pub returns-in_err-skips-clause-notes : goal.returns-in_err-skips-clause-notes
+returns-in_err-skips-clause-notes g c =
+    notes_stamp g.T.Look.stamps (g.T.Tree.snapshot c.args.tree.now) (g.K.Knowledge.noted c.args.known.now) (g.K.Knowledge.noted c.skips.new.self)
+    c.as_str.result.now (string_bytes c.args.file.now.path) c.args.file.now.stamp c.as_str.ensures.value c.requires c.skips.ensures.notes
+
+pub returns-then-branch-clause-notes : goal.returns-then-branch-clause-notes
+returns-then-branch-clause-notes g c =
+    notes_stamp g.T.Look.stamps (g.T.Tree.snapshot c.args.tree.now) (g.K.Knowledge.noted c.args.known.now) (g.K.Knowledge.noted c.skips.new.self)
+    c.as_str.result.now (string_bytes c.args.file.now.path) c.args.file.now.stamp c.as_str.ensures.value c.requires c.skips.ensures.notes
+
+pub returns-clause-notes : goal.returns-clause-notes
+returns-clause-notes g c =
+    notes_stamp g.T.Look.stamps (g.T.Tree.snapshot c.args.tree.now) (g.K.Knowledge.noted c.args.known.now) (g.K.Knowledge.noted c.skips.new.self)
+    c.as_str.result.now (string_bytes c.args.file.now.path) c.args.file.now.stamp c.as_str.ensures.value c.requires c.skips.ensures.notes

@@ -2,6 +2,7 @@ use Rattle.std.proofs.Common.{[], get_or, take, arith, ap, sym, subst, ◌∙◌
 use Rattle.cs_tree.specs.PathParts.{texts}
 use Rattle.cs_listing.specs.Models.{chosen_in}
 use Rattle.cs_fresh.proofs.ListedLemmas.{HasListed, lists_more}
+use Rattle.cs_fresh.proofs.NotedLemmas.{notes_more}
 use Rattle.cs_fresh.proofs.ScopeLemmas.{HasNamed, named_more, texts_more}
 use Rattle.cs_fresh.proofs.scope.Scope.list_words.Goals as goal
 
@@ -21,6 +22,9 @@ words-preserved g c =
     record {
       kept = c.in_ok-list.ensures.keeps ∙ c.words.invariant.kept;
       same = (keeps.0 ∙ c.words.invariant.same.0, λ right. c.words.invariant.same.1 (keeps.1 right));
+      noted = notes_more g.T.Look.stamps tree (g.T.Tree.snapshot c.words.tree) (g.K.Knowledge.noted c.args.known.now)
+          (g.K.Knowledge.noted c.words.known) (g.K.Knowledge.noted c.list.new.known) c.words.invariant.kept c.words.invariant.noted
+          c.in_ok-list.ensures.notes;
       named = λ right. subst (λ ws. HasNamed tree chosen scope.folder.now ws (HasListed end given later))
           (sym (texts_more words at record { ref_ptr = (0, 0); now = [] } (omega (arith, c.words-test.true))))
           (named_more tree (g.T.Tree.snapshot c.words.tree) chosen scope.folder.now (texts (take at words))

@@ -4,6 +4,7 @@ use Rattle.cs_listing.specs.Models.{chosen_in}
 use Rattle.cs_fresh.specs.Searched.{ShowsItems}
 use Rattle.cs_fresh.proofs.FoundLemmas.{words_found}
 use Rattle.cs_fresh.proofs.KnowledgeLemmas.{still_holds}
+use Rattle.cs_fresh.proofs.NotedLemmas.{notes_more}
 use Rattle.cs_fresh.proofs.ScopeLemmas.{HasNamed, named_more, texts_more}
 use Rattle.cs_fresh.proofs.SearchLemmas.{form_again}
 use Rattle.cs_fresh.proofs.TextLemmas.{shows_more}
@@ -28,6 +29,9 @@ words-preserved g c =
       kept = c.in_ok-search.ensures.keeps ∙ c.words.invariant.kept;
       same = form_again old mid new kept keeps;
       holds = λ at had. c.in_ok-search.ensures.holds at (c.words.invariant.holds at had);
+      noted = notes_more g.T.Look.stamps tree (g.T.Tree.snapshot c.words.tree) (g.K.Knowledge.noted c.args.known.now)
+          (g.K.Knowledge.noted c.words.known) (g.K.Knowledge.noted c.search.new.known) c.words.invariant.kept c.words.invariant.noted
+          c.in_ok-search.ensures.notes;
       named = λ known right. subst (λ ws. HasNamed tree chosen scope.folder.now ws (λ named. ShowsItems old new named given later))
           (sym (texts_more words at record { ref_ptr = (0, 0); now = [] } (omega (arith, c.words-test.true))))
           (named_more tree (g.T.Tree.snapshot c.words.tree) chosen scope.folder.now (texts (take at words))

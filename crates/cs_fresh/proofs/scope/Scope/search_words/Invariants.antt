@@ -2,6 +2,7 @@ use Rattle.std.proofs.Common.{◌≡◌, take, false}
 use Rattle.cs_tree.specs.PathParts.{texts}
 use Rattle.cs_listing.specs.Models.{chosen_in}
 use Rattle.cs_fresh.specs.Knowledge.{HoldsAsBefore, HoldsFor}
+use Rattle.cs_fresh.specs.Noted.{NotesSeen}
 use Rattle.cs_fresh.specs.Searched.{KeepsForm, ShowsItems}
 use Rattle.cs_fresh.proofs.FoundLemmas.{HasFoundNamed}
 use Rattle.cs_fresh.proofs.ScopeLemmas.{HasNamed}
@@ -13,6 +14,7 @@ invariant-words g l = record {
   kept : g.T.Tree.snapshot l.tree ≡ g.T.Tree.snapshot l.fn.tree;
   same : KeepsForm l.fn.search l.search;
   holds : HoldsAsBefore (g.K.Knowledge.Holds l.fn.known) (g.K.Knowledge.Holds l.known);
+  noted : NotesSeen g.T.Look.stamps (g.T.Tree.snapshot l.fn.tree) (g.K.Knowledge.noted l.fn.known) (g.K.Knowledge.noted l.known);
   named : HoldsFor (g.K.Knowledge.Holds l.fn.known) g.T.Look.stamps (g.T.Tree.snapshot l.fn.tree) l.fn.search →
       l.search.reports.wrong ≡ false → HasNamed (g.T.Tree.snapshot l.fn.tree) (chosen_in l.self.choices.now) l.self.folder.now
       (texts (take l.word-index l.self.words.now))

@@ -8,6 +8,7 @@ use Rattle.cs_fresh.specs.Sources.{FindsAmong}
 use Rattle.cs_fresh.specs.Walked.{GivesStampedFile}
 use Rattle.cs_fresh.proofs.FoundLemmas.{walk_found}
 use Rattle.cs_fresh.proofs.KnowledgeLemmas.{if_known, still_holds}
+use Rattle.cs_fresh.proofs.NotedLemmas.{notes_more}
 use Rattle.cs_fresh.proofs.SearchLemmas.{form_again}
 use Rattle.cs_fresh.proofs.ShownLemmas.{form_reported, shows_file, shows_reported, with_reports}
 use Rattle.cs_fresh.proofs.WalkedLemmas.{GivesIn, stamp_at, stamps_left, taken_more, taken_ends}
@@ -50,6 +51,9 @@ files-preserved g c =
           (subst (λ file. InStamps now g.T.Look.stamps (λ s. AreStamped s c.files.self.walk → GivesStampedFile s c.next.new.self file)) c.in-Some.is
           c.in_ok-file.ensures.stamps);
       holds = λ at had. c.in_ok-show_met.ensures.holds at (c.files.invariant.holds at had);
+      noted = notes_more g.T.Look.stamps tree (g.T.Tree.snapshot c.next.new.tree) (g.K.Knowledge.noted c.args.known.now)
+          (g.K.Knowledge.noted c.files.known) (g.K.Knowledge.noted c.show_met.new.known) kept c.files.invariant.noted
+          c.in_ok-show_met.ensures.notes;
       taken = taken_more tree now c.args.self.now c.files.self c.next.new.self (λ named. Known → ShowsItems old c.files.search named given middle)
           (λ named. Known → ShowsItems old new named given later) file c.files.invariant.kept c.files.invariant.form
           c.files.invariant.taken (subst (λ file. GivesIn now c.files.self c.next.new.self file) c.in-Some.is c.in_ok-file.ensures.gives)

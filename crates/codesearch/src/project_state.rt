@@ -173,8 +173,6 @@ fn batch_len(files: &[SeenFile], most: u64) -> usize
 /// The state of a project on the disk.
 #[derive(Drop)]
 pub(crate) struct DiskState {
-    /// The folder of the project, before whose names it stands.
-    root: String,
     /// Whether the current folder is that of the project.
     is_at_root: bool,
     /// Where the state is, or where one may be made; the best first.
@@ -206,14 +204,9 @@ impl DiskState {
             Some(state) => state.closed(),
             None => None,
         };
-        let known = StateKnowledge::new(alloc, String::from_str(alloc, root.as_str())?, closed);
         let is_at_root = root.as_str() == folder || (root.is_empty() && folder == "/");
-        let state = DiskState {
-            root,
-            is_at_root,
-            found,
-        };
-        Ok((state, known))
+        let known = StateKnowledge::new(alloc, root, closed);
+        Ok((DiskState { is_at_root, found }, known))
     }
 
     /// The length of the state that was opened; 0 if there is none.
@@ -248,7 +241,7 @@ impl DiskState {
             stored = if is_outdated {
                 state.remove()
             } else {
-                state.learn(rt, self.root.as_str(), files, known.is_open())
+                state.learn(rt, known.root(), files, known.is_open())
             };
             if stored.is_ok() {
                 return;

@@ -28,3 +28,5 @@ pub mod Listed
 pub mod FitTables
 pub mod BaseReads
 pub mod ReadsFiles
+-- What the contracts cite, passed on.
+pub mod Cited

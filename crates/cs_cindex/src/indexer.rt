@@ -1,20 +1,8 @@
 // The index of the files below some paths: reads the files that a walk finds, and adds them one
 // after the other.
 ghost use Rattle.std.specs.Prelude.{◌≡◌, ◌<◌, ◌≤◌, ◌^◌, true, [], map, string_bytes, IfOk, IfErr, OnOk, MatchResult};
-ghost use Rattle.cs_tree.specs.NamesAscending.{are_ascending};
-ghost use Rattle.cs_tree.specs.Walks.{AreWithinPathLimit};
-ghost use Rattle.cs_index.specs.Built.{are_paths, is_above};
-ghost use Rattle.cs_index.specs.Encoding.{names_of};
-ghost use Rattle.cs_index.specs.LeastLength.{least_length};
-ghost use Rattle.cs_cindex.specs.Effects.{effects};
-ghost use Rattle.cs_cindex.specs.IndexedFiles.{FinishesIndex, IndexesFiles, NotesFile};
-ghost use Rattle.cs_cindex.specs.Output.{output};
-ghost use Rattle.cs_cindex.specs.ReadsFiles.{ReadsFiles, ReadsFile};
-ghost use Rattle.cs_cindex.specs.Sends.{Sends};
-ghost use Rattle.cs_cindex.specs.Verdicts.{HasTrigramsOnce, IsVerdictIn, count_read};
+ghost use Rattle.cs_cindex.specs.Cited.{are_ascending, AreWithinPathLimit, are_paths, is_above, names_of, least_length, effects, FinishesIndex, IndexesFiles, NotesFile, output, ReadsFiles, ReadsFile, Sends, HasTrigramsOnce, IsVerdictIn, count_read, KeepsTree, IndexesWalk};
 ghost use Rattle.cs_tree.specs.PathSet as set;
-ghost use Rattle.cs_cindex.specs.KeepsTree.{KeepsTree};
-ghost use Rattle.cs_cindex.specs.WalkAnswers.{IndexesWalk};
 
 use crate::printing::{print_fault, print_skipped, print_walk_faults};
 use cs_args::{CindexFault, FileFault};
@@ -216,6 +204,8 @@ pub(crate) fn index_paths<T: Tree, W: Output, E: Sink>(
     let found = Found { walked };
     print_walk_faults(alloc, &found.walked.faults, err)?;
     indexer.index_files(tree, &found.walked.names, err)?;
+    // The builder has the names.
+    drop(found);
     indexer.finish_into(new)
 }
 

@@ -1,15 +1,6 @@
 // Jobs: one, and lists of them.
 ghost use Rattle.std.specs.Prelude.{ℕ, List, Option, option_map, vec_items, IfOk, option_copied, ◌≡◌, map, length, All, zip};
-ghost use Rattle.cs_cindex.specs.KeepsOldIndex.{KeepsOldIndex};
-ghost use Rattle.cs_cindex.specs.KeepsTree.{KeepsTree, KeepsTrees};
-ghost use Rattle.cs_cindex.specs.OldIndex.{IsIndex};
-ghost use Rattle.cs_cindex.specs.Outcomes.{IsStepTo, IsWholeStepTo, RightAfter, reply_of};
-ghost use Rattle.cs_cindex.specs.Output.{job_tree};
-ghost use Rattle.cs_cindex.specs.RunsJob.{RunsJob};
-ghost use Rattle.cs_cindex.specs.Sends.{SendsUpdate};
-ghost use Rattle.cs_cindex.specs.Steps.{IsWholeStep, LeavesFlushed, outputs, state, RightAll, Steps, job_trees};
-ghost use Rattle.cs_history.specs.Jobs.{HasAbsoluteFolder};
-ghost use Rattle.cs_history.specs.Headline.{Indexes};
+ghost use Rattle.cs_cindex.specs.Cited.{KeepsOldIndex, KeepsTree, KeepsTrees, IsIndex, IsStepTo, IsWholeStepTo, RightAfter, reply_of, job_tree, RunsJob, SendsUpdate, IsWholeStep, LeavesFlushed, outputs, state, RightAll, Steps, job_trees, HasAbsoluteFolder, Indexes};
 
 use crate::printing::list_old;
 use crate::walked::walked_index;

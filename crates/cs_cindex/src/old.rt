@@ -1,14 +1,8 @@
 // The base index: the index that a job updates.
 ghost use Rattle.std.specs.Prelude.{◌≡◌, ℕ, List, Some, false, map, string_bytes, IfErr, IfOk};
 ghost use Rattle.std.specs.List.{list_all};
-ghost use Rattle.cs_index.specs.Tables.{OpensAsTables};
-ghost use Rattle.cs_merge.specs.SortedNames.{AreIndexNames};
-ghost use Rattle.cs_tree.specs.Folders.{are_distinct};
+ghost use Rattle.cs_cindex.specs.Cited.{OpensAsTables, AreIndexNames, are_distinct, KeepsStore, OnlyReads, OpensBase, IsFit, is_failed_write};
 ghost use Rattle.cs_tree.specs.Cleaning.{is_normalized as is_normalized'};
-ghost use Rattle.cs_tree.specs.KeepsStore.{KeepsStore};
-ghost use Rattle.cs_cindex.specs.BaseReads.{OnlyReads, OpensBase};
-ghost use Rattle.cs_cindex.specs.FitTables.{IsFit};
-ghost use Rattle.cs_cindex.specs.Output.{is_failed_write};
 
 use cs_args::CindexFault;
 use cs_index::{IndexFault, NameTable, OldIndex, Texts};

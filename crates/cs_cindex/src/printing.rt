@@ -1,14 +1,7 @@
 // Prints the paths of an index, and diagnostics of paths and files that are skipped.
 ghost use Rattle.std.specs.Prelude.{◌≡◌, [], ◌∷◌, map, ◌++◌, ℕ, List, Some, codes};
-ghost use Rattle.cs_tree.specs.Walks.{fault_entry};
-ghost use Rattle.cs_cindex.specs.Diagnostics.{fault_entry_line, faulted, skipped, text_of, walk_fault as walk_fault'};
-ghost use Rattle.cs_cindex.specs.Effects.{WritesOut};
-ghost use Rattle.cs_tree.specs.FailureCount.{count_after};
-ghost use Rattle.cs_index.specs.Tables.{OpensAs};
-ghost use Rattle.cs_cindex.specs.KeepsOldIndex.{KeepsOldIndex};
-ghost use Rattle.cs_cindex.specs.Listed.{ListsOver, ListsPaths};
-ghost use Rattle.cs_cindex.specs.OldIndex.{IsIndex};
-ghost use Rattle.cs_cindex.specs.Output.{output, path_lines, is_failed_write};
+ghost use Rattle.cs_cindex.specs.Cited.{fault_entry, fault_entry_line, faulted, skipped, text_of, WritesOut, count_after, OpensAs, KeepsOldIndex, ListsOver, ListsPaths, IsIndex, output, path_lines, is_failed_write};
+ghost use Rattle.cs_cindex.specs.Diagnostics.{walk_fault as walk_fault'};
 
 use cs_args::{CindexFault, FileFault, Tool, fault_line, skip_line};
 use cs_index::{IndexFault, StoredIndex, Texts};

@@ -1,29 +1,7 @@
 // Jobs that walk, and their cleaned paths.
 ghost use Rattle.std.specs.Prelude.{◌≡◌, ℕ, List, false, Some, None, map, string_bytes, IfOk, IfErr, true, MatchResult};
-ghost use Rattle.cs_tree.specs.FailureCount.{count_after};
-ghost use Rattle.cs_tree.specs.KeepsStore.{KeepsStore};
+ghost use Rattle.cs_cindex.specs.Cited.{count_after, KeepsStore, opening, Parts, TablesIn, HasAbsoluteFolder, AnswersMerge, OnlyReads, effects, AreCleaned, walk_starts, IsCleanFault, AreCleanFault, KeepsOldIndex, KeepsTree, refusal_of, IsReducedIndex, IsFit, IsIndex, is_failed_write, base, base_fault, early_walk_fault, Sends, SendsOver, AnswersWalk, IndexesWalk, WalksOver, is_absolute, clean_path, clean_fault, first_bad};
 ghost use Rattle.cs_tree.specs.PathSet as set;
-ghost use Rattle.cs_index.specs.Opening.{opening};
-ghost use Rattle.cs_index.specs.OpenedParts.{Parts};
-ghost use Rattle.cs_index.specs.Tables.{TablesIn};
-ghost use Rattle.cs_history.specs.Jobs.{HasAbsoluteFolder};
-ghost use Rattle.cs_cindex.specs.BaseReads.{AnswersMerge, OnlyReads};
-ghost use Rattle.cs_cindex.specs.Effects.{effects};
-ghost use Rattle.cs_cindex.specs.JobPaths.{AreCleaned, walk_starts, IsCleanFault, AreCleanFault};
-ghost use Rattle.cs_cindex.specs.KeepsOldIndex.{KeepsOldIndex};
-ghost use Rattle.cs_cindex.specs.KeepsTree.{KeepsTree};
-ghost use Rattle.cs_cindex.specs.Merges.{refusal_of};
-ghost use Rattle.cs_cindex.specs.Next.{IsReducedIndex};
-ghost use Rattle.cs_cindex.specs.FitTables.{IsFit};
-ghost use Rattle.cs_cindex.specs.OldIndex.{IsIndex};
-ghost use Rattle.cs_cindex.specs.Output.{is_failed_write};
-ghost use Rattle.cs_cindex.specs.Refusals.{base, base_fault, early_walk_fault};
-ghost use Rattle.cs_cindex.specs.Sends.{Sends, SendsOver};
-ghost use Rattle.cs_cindex.specs.WalkAnswers.{AnswersWalk, IndexesWalk, WalksOver};
-ghost use Rattle.cs_tree.specs.Cover.{is_absolute};
-ghost use Rattle.cs_tree.specs.Clean.{clean_path};
-ghost use Rattle.cs_tree.specs.Cleaning.{clean_fault};
-ghost use Rattle.cs_history.specs.Replies.{first_bad};
 
 use crate::indexer::index_paths;
 use crate::job::JobCall;

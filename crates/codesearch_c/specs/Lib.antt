@@ -10,3 +10,5 @@ pub mod FindsSpans
 pub mod Reports
 pub mod Building
 pub mod Merging
+-- What the contracts cite, passed on.
+pub mod Cited

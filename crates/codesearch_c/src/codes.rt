@@ -1,7 +1,6 @@
 // The codes of errors, the numbers of `codesearch.h`, and copies into a buffer of the caller.
 ghost use Rattle.std.specs.Prelude.{◌≡◌};
-ghost use Rattle.codesearch_c.specs.Codes.{list_code, pattern_code, index_code, build_code, merge_code, reason_code};
-ghost use Rattle.codesearch_c.specs.Copies.{IsCopy, IsPage};
+ghost use Rattle.codesearch_c.specs.Cited.{list_code, pattern_code, index_code, build_code, merge_code, reason_code, IsCopy, IsPage};
 
 use cs_index::{BuildFault, IndexFault};
 use cs_merge::MergeFault;

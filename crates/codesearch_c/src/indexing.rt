@@ -2,12 +2,7 @@
 // kept of them after a call.
 ghost use Rattle.std.specs.Prelude.{◌≡◌, IsOk, IfOk, length, slice_get, [], true, false, Some, None, IfErr, map, string_bytes};
 ghost use Rattle.std.specs.Option.{option_copied};
-ghost use Rattle.cs_index.specs.Opening.{opening};
-ghost use Rattle.codesearch_c.specs.Copies.{IsEntryCopy, opening_code};
-ghost use Rattle.codesearch_c.specs.Slots.{is_filled, OnBuilder, OnBytes};
-ghost use Rattle.codesearch_c.specs.Codes.{done, memory, misuse};
-ghost use Rattle.codesearch_c.specs.Patterns.{IsMisuse};
-ghost use Rattle.codesearch_c.specs.Building.{nul_parts, IsPathsRefusal, IsNewBuilder, IsAddition, IsFinished, IsPart};
+ghost use Rattle.codesearch_c.specs.Cited.{opening, IsEntryCopy, opening_code, is_filled, OnBuilder, OnBytes, done, memory, misuse, IsMisuse, nul_parts, IsPathsRefusal, IsNewBuilder, IsAddition, IsFinished, IsPart};
 
 use crate::codes::{
     MEMORY, MISUSE, NO_ENTRY, NOT_UTF8, OK, build_code, copy_items, index_code, reason_code,

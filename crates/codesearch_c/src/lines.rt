@@ -1,12 +1,7 @@
 // Lines of a block, whose last line may have no newline.
 ghost use Rattle.std.specs.Prelude.{◌≡◌, ◌≤◌, ◌<◌, ◌++◌, ℕ, List, IfSome, MatchOption, length, drop, slice_set, count_by};
-ghost use Rattle.cs_match.specs.Lines.{lines};
-ghost use Rattle.cs_match.specs.NoNewline.{HasNoNewline};
-ghost use Rattle.cs_match.specs.MatchingEnds.{matching_ends};
-ghost use Rattle.cs_match.specs.Skipped.{AreLinesBetween};
+ghost use Rattle.codesearch_c.specs.Cited.{lines, HasNoNewline, matching_ends, AreLinesBetween, ForEachTest, IsFirstLine, IsListing, AreListedTo, IsLineFrom};
 ghost use Rattle.codesearch_c.specs.declared.lines.LineBounds.{LineBounds};
-ghost use Rattle.codesearch_c.specs.MatchingLines.{ForEachTest, IsFirstLine, IsListing, AreListedTo};
-ghost use Rattle.codesearch_c.specs.Budgets.{IsLineFrom};
 
 use cs_match::{Matcher, line_to, whole_lines_len};
 use memchr::memchr;

@@ -1,15 +1,7 @@
 // Exports over a pattern. The calls over the held pattern answer a code; the cache of its matcher
 // is kept from one call to the next.
 ghost use Rattle.std.specs.Prelude.{◌≡◌, ◌≢◌, true, false, Some, None, IsOk, IfOk, IfErr, pos, IfSome};
-ghost use Rattle.cs_syntax.specs.Parsing.{ParsesAs};
-ghost use Rattle.cs_trigram.specs.QueryOf.{IsQueryOf};
-ghost use Rattle.cs_index.specs.Opening.{opening};
-ghost use Rattle.codesearch_c.specs.Codes.{done};
-ghost use Rattle.codesearch_c.specs.Slots.{is_filled, OnPattern};
-ghost use Rattle.codesearch_c.specs.Patterns.{IsRefusal, IsCompiled, IsMisuse, IsMatchCode, IsNextCode, IsLinesCode, IsCountCode, IsCandidatesCode, IsPageCode, Keeps, IsAnswered};
-ghost use Rattle.cs_match.specs.Cached.{IsCacheOf};
-ghost use Rattle.codesearch_c.specs.Budgets.{IsLineFrom};
-ghost use Rattle.codesearch_c.specs.Reports.{IsReportCode};
+ghost use Rattle.codesearch_c.specs.Cited.{ParsesAs, IsQueryOf, opening, done, is_filled, OnPattern, IsRefusal, IsCompiled, IsMisuse, IsMatchCode, IsNextCode, IsLinesCode, IsCountCode, IsCandidatesCode, IsPageCode, Keeps, IsAnswered, IsCacheOf, IsLineFrom, IsReportCode};
 
 use crate::codes::{
     MEMORY, MISUSE, NOT_UTF8, OK, ROOM, copy_first, copy_items, index_code, pattern_code,

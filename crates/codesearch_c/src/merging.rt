@@ -1,9 +1,6 @@
 // The export that merges two indexes.
 ghost use Rattle.std.specs.Prelude.{◌≡◌, true, false, None};
-ghost use Rattle.cs_index.specs.Opening.{opening};
-ghost use Rattle.codesearch_c.specs.Slots.{is_filled};
-ghost use Rattle.codesearch_c.specs.Patterns.{IsMisuse};
-ghost use Rattle.codesearch_c.specs.Merging.{IsMergeOf, IsMergeOfOpened};
+ghost use Rattle.codesearch_c.specs.Cited.{opening, is_filled, IsMisuse, IsMergeOf, IsMergeOfOpened};
 
 use crate::codes::{MISUSE, index_code, merge_code};
 use crate::indexing::fill_bytes;

@@ -1,8 +1,6 @@
 // Exports over a text: what cgrep prints for it, and whether an index takes it.
 ghost use Rattle.std.specs.Prelude.{◌≡◌};
-ghost use Rattle.codesearch_c.specs.Patterns.{IsAnswered};
-ghost use Rattle.codesearch_c.specs.Reports.{style_of, IsReportCode};
-ghost use Rattle.codesearch_c.specs.Building.{IsScanCode};
+ghost use Rattle.codesearch_c.specs.Cited.{IsAnswered, style_of, IsReportCode, IsScanCode};
 
 use crate::codes::{MEMORY, MISUSE, OK, reason_code};
 use crate::slot::{Held, Slot};

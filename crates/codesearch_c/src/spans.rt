@@ -1,8 +1,6 @@
 // Exports that say where in a line a pattern matches.
 ghost use Rattle.std.specs.Prelude.{◌≡◌, ◌+◌, true, false, nat_eq, count_by};
-ghost use Rattle.cs_match.specs.Lines.{newline};
-ghost use Rattle.codesearch_c.specs.Patterns.{IsAnswered};
-ghost use Rattle.codesearch_c.specs.Spans.{IsSpanCode, IsSpansCode, IsNewlinesCode};
+ghost use Rattle.codesearch_c.specs.Cited.{newline, IsAnswered, IsSpanCode, IsSpansCode, IsNewlinesCode};
 
 use crate::codes::{MISUSE, OK, list_code};
 use crate::slot::{Held, HeldPattern, Slot};

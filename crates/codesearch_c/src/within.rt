@@ -1,7 +1,6 @@
 // Exports that search a block within a budget of bytes, and stop where a line begins.
 ghost use Rattle.std.specs.Prelude.{◌≡◌, MatchOption};
-ghost use Rattle.codesearch_c.specs.Patterns.{IsAnswered};
-ghost use Rattle.codesearch_c.specs.Budgets.{budget_of, IsNextWithinCode, IsCountWithinCode, IsStop, HasNoStop};
+ghost use Rattle.codesearch_c.specs.Cited.{IsAnswered, budget_of, IsNextWithinCode, IsCountWithinCode, IsStop, HasNoStop};
 
 use crate::codes::{MISUSE, OK, STOPPED};
 use crate::lines::LineBounds;

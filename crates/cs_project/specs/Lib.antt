@@ -18,3 +18,5 @@ pub mod Scans
 pub mod Blocks
 pub mod Ordered
 pub mod Counts
+-- What the contracts cite, passed on.
+pub mod Cited

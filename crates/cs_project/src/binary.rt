@@ -1,7 +1,6 @@
 // Which texts are binary.
 ghost use Rattle.std.specs.Prelude.{◌≡◌};
-ghost use Rattle.cs_project.specs.Project.{searched_as};
-ghost use Rattle.cs_project.specs.Shown.{is_binary};
+ghost use Rattle.cs_project.specs.Cited.{searched_as, is_binary};
 
 use memchr::memchr;
 

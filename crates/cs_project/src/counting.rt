@@ -1,10 +1,6 @@
 // The number of marked lines of a text that is read from a source, block by block.
 ghost use Rattle.std.specs.Prelude.{◌≡◌, ◌≤◌, ◌<◌, ◌+◌, ◌^◌, IfOk, length, take};
-ghost use Rattle.cs_match.specs.NoNewline.{HasNoNewline};
-ghost use Rattle.cs_tree.specs.Failures.{count_if};
-ghost use Rattle.cs_project.specs.Counts.{CountsEnded, CountsWindow, CountsText, is_enough};
-ghost use Rattle.cs_project.specs.Findings.{KeepsSearch};
-ghost use Rattle.cs_project.specs.Streams.{is_failed};
+ghost use Rattle.cs_project.specs.Cited.{HasNoNewline, count_if, CountsEnded, CountsWindow, CountsText, is_enough, KeepsSearch, is_failed};
 
 use crate::form::ShowOptions;
 use crate::search::LineSearch;

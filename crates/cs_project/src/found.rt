@@ -1,9 +1,8 @@
 // Lines as they are printed with their matches.
 ghost use Rattle.std.specs.Prelude.{◌≡◌, ◌≤◌, ◌<◌, ◌+◌, ◌^◌, ◌++◌, ◌∷◌, ℕ, List, length, OnOk, IfOk};
 ghost use Rattle.std.specs.List.{flat_map};
-ghost use Rattle.cs_project.specs.Forms.{Span as A_span, column_part, first_column, match_bytes, whole_bytes, painted, painted_from, prefix_of, row_bytes};
-ghost use Rattle.cs_project.specs.Ordered.{AreOrdered, pairs, pair_of};
-ghost use Rattle.cs_project.specs.Printing.{Prints, row_of};
+ghost use Rattle.cs_project.specs.Cited.{column_part, first_column, match_bytes, whole_bytes, painted, painted_from, prefix_of, row_bytes, AreOrdered, pairs, pair_of, Prints, row_of};
+ghost use Rattle.cs_project.specs.Forms.{Span as A_span};
 
 use crate::form::LineForm;
 use crate::row::LineRow;

@@ -1,7 +1,6 @@
 // Laws of the definitions.
 ghost use Rattle.std.specs.Prelude.{◌≡◌, ◌++◌, ℕ, List, nat_lt};
-ghost use Rattle.cs_project.specs.Findings.{Finding};
-ghost use Rattle.cs_project.specs.Shown.{count_of, following, has_groups, joined, line_groups, text_rows};
+ghost use Rattle.cs_project.specs.Cited.{Finding, count_of, following, has_groups, joined, line_groups, text_rows};
 ghost use Rattle.cs_project.specs.declared.form.ShowOptions.{ShowOptions};
 
 /// Lines of a text are printed if and only if one is marked.

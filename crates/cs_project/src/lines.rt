@@ -1,8 +1,6 @@
 // Lines at the start and at the end of a block of whole lines.
 ghost use Rattle.std.specs.Prelude.{◌≡◌, ◌≤◌, ◌<◌, ◌-◌, ◌+◌, ◌∷◌, length, take, drop, slice_range};
-ghost use Rattle.cs_match.specs.Lines.{newline, terminated_lines};
-ghost use Rattle.cs_match.specs.NoNewline.{HasNoNewline};
-ghost use Rattle.cs_match.specs.Skipping.{AreWholeLines};
+ghost use Rattle.cs_project.specs.Cited.{newline, terminated_lines, HasNoNewline, AreWholeLines};
 
 use cs_match::whole_lines_len;
 use memchr::memchr;

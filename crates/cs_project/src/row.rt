@@ -1,8 +1,6 @@
 // Lines as they are printed.
 ghost use Rattle.std.specs.Prelude.{◌≡◌, ◌++◌, ◌∷◌, [], false, None, List, codes};
-ghost use Rattle.cs_match.specs.Lines.{newline};
-ghost use Rattle.cs_project.specs.Forms.{dyed, separator, separated, name_part, number_part, prefix_of, row_bytes, Span};
-ghost use Rattle.cs_project.specs.Printing.{Prints, row_of, needs_spans};
+ghost use Rattle.cs_project.specs.Cited.{newline, dyed, separator, separated, name_part, number_part, prefix_of, row_bytes, Span, Prints, row_of, needs_spans};
 
 use crate::form::LineForm;
 use cs_output::Output;

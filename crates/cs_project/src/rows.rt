@@ -1,15 +1,6 @@
 // The rows of one text as they are printed.
 ghost use Rattle.std.specs.Prelude.{◌≡◌, ◌≤◌, ◌<◌, ◌+◌, ◌-◌, ◌^◌, ◌∷◌, ◌++◌, [], true, false, length, take, drop, slice_range, codes, if◌then◌else◌, IfOk, OnOk};
-ghost use Rattle.cs_match.specs.Lines.{newline, terminated_lines};
-ghost use Rattle.cs_match.specs.Skipping.{AreWholeLines};
-ghost use Rattle.cs_project.specs.Contexts.{is_open, one_less, row_at};
-ghost use Rattle.cs_project.specs.Forms.{dyed};
-ghost use Rattle.cs_project.specs.Printing.{Prints, row_of};
-ghost use Rattle.cs_project.specs.Ordered.{AreOrdered, pairs};
-ghost use Rattle.cs_project.specs.Scans.{rows_at, last_rows, scan_of, scan_marked, Fits, IsPassed};
-ghost use Rattle.cs_project.specs.Shown.{gap, line_gap, heading, name_bytes};
-ghost use Rattle.cs_project.specs.Blocks.{IsFirstLines};
-ghost use Rattle.cs_project.specs.Spacing.{ShowsRow, ShowsRows, IsPrinted, IsMarkPrinted, before_row, opening_of, fresh_rows};
+ghost use Rattle.cs_project.specs.Cited.{newline, terminated_lines, AreWholeLines, is_open, one_less, row_at, dyed, Prints, row_of, AreOrdered, pairs, rows_at, last_rows, scan_of, scan_marked, Fits, IsPassed, gap, line_gap, heading, name_bytes, IsFirstLines, ShowsRow, ShowsRows, IsPrinted, IsMarkPrinted, before_row, opening_of, fresh_rows};
 
 use crate::form::ShowOptions;
 use crate::found::FoundRow;

@@ -1,14 +1,6 @@
 // The search of the lines of a text for those that are marked.
 ghost use Rattle.std.specs.Prelude.{◌≡◌, ◌≤◌, ◌<◌, ◌+◌, ◌-◌, ◌^◌, ℕ, Bool, ◌&&◌, List, [], ◌∷◌, false, true, not, length, take, drop, slice_range, IfOk, IfSome, OnOk};
-ghost use Rattle.cs_match.specs.LastPart.{last_line};
-ghost use Rattle.cs_match.specs.Lines.{terminated_lines};
-ghost use Rattle.cs_match.specs.NoNewline.{HasNoNewline};
-ghost use Rattle.cs_match.specs.Skipping.{AreWholeLines, NoneMatch, IsLineAfter};
-ghost use Rattle.cs_project.specs.Blocks.{IsNext};
-ghost use Rattle.cs_project.specs.Contexts.{is_open};
-ghost use Rattle.cs_project.specs.Findings.{Tests, KeepsSearch};
-ghost use Rattle.cs_project.specs.Scans.{Fits, Searches, SearchesLast, IsNextMark};
-ghost use Rattle.cs_project.specs.Shown.{is_wanted};
+ghost use Rattle.cs_project.specs.Cited.{last_line, terminated_lines, HasNoNewline, AreWholeLines, NoneMatch, IsLineAfter, IsNext, is_open, Tests, KeepsSearch, Fits, Searches, SearchesLast, IsNextMark, is_wanted};
 
 use crate::form::ShowOptions;
 use crate::lines::line_end;

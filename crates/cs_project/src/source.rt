@@ -1,11 +1,6 @@
 // The printing of a text that is read from a source.
 ghost use Rattle.std.specs.Prelude.{◌≡◌, ◌<◌, ◌+◌, ◌^◌, nat_lt, IfOk, length};
-ghost use Rattle.cs_tree.specs.Failures.{count_if};
-ghost use Rattle.cs_project.specs.Counts.{limit_by};
-ghost use Rattle.cs_project.specs.Findings.{KeepsSearch};
-ghost use Rattle.cs_project.specs.Printing.{Prints};
-ghost use Rattle.cs_project.specs.Shown.{between, following, total_groups};
-ghost use Rattle.cs_project.specs.Streams.{FindsInFile, PrintsFile, StreamsText, StreamsTotal, is_failed};
+ghost use Rattle.cs_project.specs.Cited.{count_if, limit_by, KeepsSearch, Prints, between, following, total_groups, FindsInFile, PrintsFile, StreamsText, StreamsTotal, is_failed};
 
 use crate::binary::{BinaryFiles, searched_as};
 use crate::counting::stream_count;

@@ -1,14 +1,6 @@
 // The printing of the lines of a text that is read from a source, block by block.
 ghost use Rattle.std.specs.Prelude.{◌≡◌, ◌≤◌, ◌<◌, ◌+◌, ◌-◌, ◌^◌, false, IfOk, IfSome, MatchOption, OnOk, length, take, drop, slice_range};
-ghost use Rattle.cs_match.specs.LastPart.{last_line};
-ghost use Rattle.cs_match.specs.Lines.{terminated_lines};
-ghost use Rattle.cs_match.specs.NoNewline.{HasNoNewline};
-ghost use Rattle.cs_match.specs.Skipping.{AreWholeLines};
-ghost use Rattle.cs_tree.specs.Failures.{count_if};
-ghost use Rattle.cs_project.specs.Findings.{KeepsSearch};
-ghost use Rattle.cs_project.specs.Scans.{Fits, SearchesLast};
-ghost use Rattle.cs_project.specs.Reads.{is_failure};
-ghost use Rattle.cs_project.specs.Streams.{EndsAt, IsHeld, IsReady, IsTrimmed, StreamsRows, StreamsLines, is_failed, is_whole};
+ghost use Rattle.cs_project.specs.Cited.{last_line, terminated_lines, HasNoNewline, AreWholeLines, count_if, KeepsSearch, Fits, SearchesLast, is_failure, EndsAt, IsHeld, IsReady, IsTrimmed, StreamsRows, StreamsLines, is_failed, is_whole};
 
 use crate::lines::{last_lines, line_count};
 use crate::rows::{Page, Rows};

@@ -1,13 +1,6 @@
 // The printing of the lines of a text that is in memory.
 ghost use Rattle.std.specs.Prelude.{◌≡◌, ◌++◌, ◌<◌, ◌+◌, ◌^◌, false, length, count_by, ◌≤◌, IfOk, OnOk, [], nat_lt, codes, if◌then◌else◌};
-ghost use Rattle.cs_project.specs.Forms.{dyed};
-ghost use Rattle.cs_project.specs.Printing.{Prints};
-ghost use Rattle.cs_project.specs.Shown.{is_wanted, at_most, binary_groups, count_groups, count_of, following, has_groups, line_gap, name_groups, wanted_count};
-ghost use Rattle.cs_match.specs.LastPart.{last_line};
-ghost use Rattle.cs_match.specs.Lines.{terminated_lines};
-ghost use Rattle.cs_match.specs.Skipping.{AreWholeLines};
-ghost use Rattle.cs_project.specs.Findings.{Finding, Tests, KeepsSearch};
-ghost use Rattle.cs_project.specs.Printed.{PrintsText, HasMark, PrintsLines};
+ghost use Rattle.cs_project.specs.Cited.{dyed, Prints, is_wanted, at_most, binary_groups, count_groups, count_of, following, has_groups, line_gap, name_groups, wanted_count, last_line, terminated_lines, AreWholeLines, Finding, Tests, KeepsSearch, PrintsText, HasMark, PrintsLines};
 
 use crate::form::{Mode, ShowOptions};
 use crate::lines::line_count;

@@ -55,3 +55,5 @@ pub mod Programs
 pub mod IndexSearch
 pub mod Selections
 pub mod Plans
+-- What the contracts cite, passed on.
+pub mod Cited

@@ -1,18 +1,6 @@
 // Searches of lines, and of blocks of lines.
 ghost use Rattle.std.specs.Prelude.{◌≡◌, ◌≤◌, ◌<◌, ◌+◌, ◌-◌, ◌*◌, ◌^◌, ◌∷◌, [], ℕ, Bool, true, false, is_none, List, OnOk, IfOk, IfSome, length, take, drop, slice_range, count_by};
-ghost use Rattle.cs_search.specs.GrepFaults.{is_grep_failure};
-ghost use Rattle.cs_tree.specs.FailureCount.{count_after};
-ghost use Rattle.cs_match.specs.Deciding.{Decides};
-ghost use Rattle.cs_match.specs.Lines.{terminated_lines};
-ghost use Rattle.cs_match.specs.NoNewline.{HasNoNewline};
-ghost use Rattle.cs_match.specs.Skipping.{AreWholeLines};
-ghost use Rattle.cs_match.specs.LastPart.{last_part};
-ghost use Rattle.cs_match.specs.MatchingEnds.{matching_ends};
-ghost use Rattle.cs_match.specs.Skipped.{AreLinesBetween};
-ghost use Rattle.cs_match.specs.Work.{line_work};
-ghost use Rattle.cs_search.specs.TestedLines.{SameNumber, CountsBlock, IsUnlisted, IsNextBlock, GoesOn, WritesTo, TestsBy, TestsBlock};
-ghost use Rattle.cs_search.specs.Work.{searched_work};
-ghost use Rattle.cs_search.specs.SearchedWork.{StepsWithin, ended_work};
+ghost use Rattle.cs_search.specs.Cited.{is_grep_failure, count_after, Decides, terminated_lines, HasNoNewline, AreWholeLines, last_part, matching_ends, AreLinesBetween, line_work, SameNumber, CountsBlock, IsUnlisted, IsNextBlock, GoesOn, WritesTo, TestsBy, TestsBlock, searched_work, StepsWithin, ended_work};
 
 use crate::printer::Printer;
 use crate::status::{GrepFault, Tally, newlines};

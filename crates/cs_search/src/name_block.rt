@@ -2,13 +2,7 @@
 ghost use Rattle.std.specs.Prelude.{◌≡◌, ◌<◌, ◌∷◌, ◌++◌, [], ℕ, List, Some, All, IfOk, IsUtf8, get_or, length};
 ghost use Rattle.std.specs.List.{AllByRecursion};
 ghost use Rattle.std.specs.Result.{IsOkAnd};
-ghost use Rattle.cs_tree.specs.KeepsStore.{KeepsStore};
-ghost use Rattle.cs_index.specs.OpenedParts.{Parts};
-ghost use Rattle.cs_index.specs.NameReading.{ReadsNames};
-ghost use Rattle.cs_match.specs.Lines.{terminated_lines};
-ghost use Rattle.cs_match.specs.Skipping.{AreWholeLines};
-ghost use Rattle.cs_search.specs.IndexSearch.{names_at};
-ghost use Rattle.cs_search.specs.Selections.{IsBlockOf, PushesMatching};
+ghost use Rattle.cs_search.specs.Cited.{KeepsStore, Parts, ReadsNames, terminated_lines, AreWholeLines, names_at, IsBlockOf, PushesMatching};
 
 use cs_index::{IndexFault, NameReader};
 use cs_match::Matcher;

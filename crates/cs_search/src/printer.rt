@@ -1,11 +1,6 @@
 // How matching lines are printed.
 ghost use Rattle.std.specs.Prelude.{◌≡◌, ◌++◌, ◌∷◌, [], true, false, IsTrue, codes, decimal, if◌then◌else◌};
-ghost use Rattle.cs_match.specs.Lines.{newline};
-ghost use Rattle.cs_tree.specs.FailureCount.{count_after};
-ghost use Rattle.cs_tree.specs.WritesBytes.{WritesBytes};
-ghost use Rattle.cs_search.specs.GrepFaults.{is_grep_failure};
-ghost use Rattle.cs_search.specs.Report.{count_line, match_line};
-ghost use Rattle.cs_search.specs.TestedLines.{WritesTo, match_output, total};
+ghost use Rattle.cs_search.specs.Cited.{newline, count_after, WritesBytes, is_grep_failure, count_line, match_line, WritesTo, match_output, total};
 
 use crate::status::GrepFault;
 use cs_args::Style;

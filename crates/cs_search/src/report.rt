@@ -1,18 +1,6 @@
 // Searches of one input, which is read block by block (Go: `Grep` in regexp/match.go).
 ghost use Rattle.std.specs.Prelude.{◌≡◌, ◌<◌, ◌+◌, ◌^◌, length, ◌≤◌, [], IfOk, IsOkUnless};
-ghost use Rattle.cs_tree.specs.ConsumesAtMost.{ConsumesAtMost};
-ghost use Rattle.cs_tree.specs.FailureCount.{count_after};
-ghost use Rattle.cs_match.specs.LastPart.{last_line};
-ghost use Rattle.cs_match.specs.Work.{line_work};
-ghost use Rattle.cs_search.specs.GrepReports.{ReportsBy};
-ghost use Rattle.cs_search.specs.InputReport.{max_searched, input_report};
-ghost use Rattle.cs_search.specs.GrepFaults.{CountsBoth, is_grep_failure, has_read_failed};
-ghost use Rattle.cs_search.specs.TestedLines.{WritesTo, TestsBy, EndsBy, HasCountedNone, IsUnlisted};
-ghost use Rattle.cs_search.specs.Work.{TakesSteps, input_work};
-ghost use Rattle.cs_search.specs.SearchedWork.{StepsWithin, SearchesLines, ReadsOne};
-ghost use Rattle.cs_tree.specs.Failures.{count_if};
-ghost use Rattle.cs_search.specs.Buffer.{pending_bytes};
-ghost use Rattle.cs_search.specs.Progress.{StopsHere, Stops, UnlessListed, TestsInputBy, has_stop_failed};
+ghost use Rattle.cs_search.specs.Cited.{ConsumesAtMost, count_after, last_line, line_work, ReportsBy, max_searched, input_report, CountsBoth, is_grep_failure, has_read_failed, WritesTo, TestsBy, EndsBy, HasCountedNone, IsUnlisted, TakesSteps, input_work, StepsWithin, SearchesLines, ReadsOne, count_if, pending_bytes, StopsHere, Stops, UnlessListed, TestsInputBy, has_stop_failed};
 
 use crate::buffer::LineBuffer;
 use crate::line_search::{search_block, search_line};

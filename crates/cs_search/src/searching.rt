@@ -1,21 +1,8 @@
 // The tool `cgrep`, and the state that a tool searches its inputs with.
 ghost use Rattle.std.specs.Prelude.{◌≡◌, ◌+◌, [], IfOk, IfErr, MatchResult, string_bytes, if◌then◌else◌, ◌∷◌, map};
-ghost use Rattle.cs_tree.specs.Sinks.{GrowsFlushed};
-ghost use Rattle.cs_tree.specs.ConsumesAtMost.{ConsumesAtMost};
-ghost use Rattle.cs_tree.specs.TakesPrefix.{EndsAfter, MayEnd};
-ghost use Rattle.cs_tree.specs.WritesBytes.{WritesBytes};
-ghost use Rattle.cs_search.specs.InputReport.{max_searched};
-ghost use Rattle.cs_search.specs.Cgrep.{cgrep_printed, PrintsFaultsOf, IsGrep};
-ghost use Rattle.cs_search.specs.Refusals.{SilentOnError, has_write_failed};
-ghost use Rattle.cs_search.specs.SearchEffects.{SearchesTree, HasNotBegun, EndsBoth};
-ghost use Rattle.cs_search.specs.Programs.{IsProgramOf, RefusesPattern};
-ghost use Rattle.cs_search.specs.Searcher.{PrintsResult, CountsSearchFault, input_shown, file_shown, files_shown, PrintsAllFaults};
-ghost use Rattle.cs_search.specs.Printed.{search_outputs};
-ghost use Rattle.cs_args.specs.FileFaults.{fault_line_of};
-ghost use Rattle.cs_tree.specs.Failures.{count_if};
+ghost use Rattle.cs_search.specs.Cited.{GrowsFlushed, ConsumesAtMost, EndsAfter, MayEnd, WritesBytes, max_searched, cgrep_printed, PrintsFaultsOf, IsGrep, SilentOnError, has_write_failed, SearchesTree, HasNotBegun, EndsBoth, IsProgramOf, RefusesPattern, PrintsResult, CountsSearchFault, input_shown, file_shown, files_shown, PrintsAllFaults, search_outputs, fault_line_of, count_if, IsSearchFault};
 ghost use Rattle.cs_args.specs.declared.fault.FileFault.TheVariants.{Failed, InputTooLong};
 ghost use Rattle.cs_search.specs.declared.status.ReadFault.TheVariants.{Read, TooLong};
-ghost use Rattle.cs_search.specs.GrepFaults.{IsSearchFault};
 
 use crate::buffer::LineBuffer;
 use crate::printer::Printer;

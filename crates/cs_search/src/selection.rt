@@ -1,12 +1,7 @@
 // The names of an index in a store that a search selects: those of its candidates that `-f` keeps.
 ghost use Rattle.std.specs.Prelude.{◌≡◌, ◌<◌, ◌++◌, ◌∷◌, [], ℕ, List, Some, All, IfOk, length, Bool, IfErr, option_copied};
 ghost use Rattle.std.specs.Result.{IsOkAnd};
-ghost use Rattle.cs_tree.specs.KeepsStore.{KeepsStore};
-ghost use Rattle.cs_index.specs.OpenedParts.{Parts};
-ghost use Rattle.cs_index.specs.Stored.{StandsIn};
-ghost use Rattle.cs_search.specs.IndexSearch.{AreKept, DecidesNames, matcher_tree, IsFileProgram, FileRefused, file_pattern_fault};
-ghost use Rattle.cs_search.specs.Selections.{HasSelected, Selects, SelectsMore};
-ghost use Rattle.cs_search.specs.Csearch.{file_text};
+ghost use Rattle.cs_search.specs.Cited.{KeepsStore, Parts, StandsIn, AreKept, DecidesNames, matcher_tree, IsFileProgram, FileRefused, file_pattern_fault, HasSelected, Selects, SelectsMore, file_text};
 
 use crate::name_block::{push_matching, read_block};
 use crate::status::newlines;

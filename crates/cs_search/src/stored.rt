@@ -2,19 +2,7 @@
 // candidates, which are searched line by line. The plan of a job is compiled before the index or a
 // file is read.
 ghost use Rattle.std.specs.Prelude.{◌≡◌, IfOk, IfErr, false, None, option_copied, ◌≤◌, ℕ, List, Option, string_bytes};
-ghost use Rattle.cs_tree.specs.KeepsStore.{KeepsStore};
-ghost use Rattle.cs_tree.specs.Sinks.{CountsOne};
-ghost use Rattle.cs_search.specs.Refusals.{has_write_failed, SilentOnError};
-ghost use Rattle.cs_search.specs.Csearch.{IsSound, AreAccepted};
-ghost use Rattle.cs_trigram.specs.QueryOf.{IsQueryOf};
-ghost use Rattle.cs_search.specs.Plans.{IsPlan, SelectsOrRefuses, RefusesPlan, AreSelected};
-ghost use Rattle.cs_search.specs.SearchEffects.{SearchesTree, HasNotBegun, EndsBoth};
-ghost use Rattle.cs_search.specs.SearchedBy.{SearchesBy};
-ghost use Rattle.cs_search.specs.StoredSearch.{IsOpened, IfRead, IsUnopened};
-ghost use Rattle.cs_syntax.specs.Parsing.{ParsesAs};
-ghost use Rattle.cs_syntax.specs.Weight.{weight, max_weight};
-ghost use Rattle.cs_search.specs.Printed.{search_outputs};
-ghost use Rattle.cs_search.specs.Searched.{IsSearch};
+ghost use Rattle.cs_search.specs.Cited.{KeepsStore, CountsOne, has_write_failed, SilentOnError, IsSound, AreAccepted, IsQueryOf, IsPlan, SelectsOrRefuses, RefusesPlan, AreSelected, SearchesTree, HasNotBegun, EndsBoth, SearchesBy, IsOpened, IfRead, IsUnopened, ParsesAs, weight, max_weight, search_outputs, IsSearch};
 
 use crate::searching::{Searcher, finish};
 use crate::selection::{compile_file, selected_names};

@@ -1,10 +1,6 @@
 // Searches of texts in memory.
 ghost use Rattle.std.specs.Prelude.{◌≡◌};
-ghost use Rattle.cs_tree.specs.FailureCount.{count_after};
-ghost use Rattle.cs_match.specs.Work.{WorksWithin};
-ghost use Rattle.cs_search.specs.Work.{input_work};
-ghost use Rattle.cs_search.specs.GrepFaults.{is_grep_failure};
-ghost use Rattle.cs_search.specs.GrepReports.{text_report, IsReportedBy};
+ghost use Rattle.cs_search.specs.Cited.{count_after, WorksWithin, input_work, is_grep_failure, text_report, IsReportedBy};
 
 use crate::line_search::search_block;
 use crate::printer::Printer;

@@ -13,3 +13,5 @@ pub mod StampReaders
 pub mod OtherReaders
 pub mod OpenedStates
 pub mod WrittenForm
+-- What the contracts cite, passed on.
+pub mod Cited

@@ -1,10 +1,7 @@
 // Laws of state files.
 ghost use Rattle.std.specs.Prelude.{◌≡◌, ◌<◌, ◌^◌, ℕ, List, length};
 ghost use Rattle.cs_tree.specs.declared.tree.Stamp.{Stamp};
-ghost use Rattle.cs_state.specs.Known.{Known};
-ghost use Rattle.cs_state.specs.StateFile.{state_bytes};
-ghost use Rattle.cs_state.specs.StateLengths.{HasForm};
-ghost use Rattle.cs_state.specs.WrittenForm.{lengths_of};
+ghost use Rattle.cs_state.specs.Cited.{Known, state_bytes, HasForm, lengths_of};
 ghost use Rattle.cs_state.specs.declared.state_lengths.StateLengths.{StateLengths};
 
 /// A written state has the form that `read_lengths` asks for, with the lengths of its sections.

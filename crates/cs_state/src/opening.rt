@@ -1,8 +1,6 @@
 // Opening a state file.
 ghost use Rattle.std.specs.Prelude.{◌≡◌, ◌<◌, ◌^◌, length, IfOk, IfSome};
-ghost use Rattle.cs_tree.specs.KeepsStore.{KeepsStore};
-ghost use Rattle.cs_state.specs.StateFile.{eight_bytes};
-ghost use Rattle.cs_state.specs.StateLengths.{AreLengths, AreWithin, HasForm};
+ghost use Rattle.cs_state.specs.Cited.{KeepsStore, eight_bytes, AreLengths, AreWithin, HasForm};
 
 use crate::state_lengths::StateLengths;
 use crate::sums::PIECE_LEN;

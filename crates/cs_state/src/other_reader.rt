@@ -1,11 +1,6 @@
 // Reading the files that are not in the index.
 ghost use Rattle.std.specs.Prelude.{◌≡◌, ◌≤◌, ◌+◌, ◌-◌, ◌++◌, ◌∷◌, ℕ, List, Some, IfNone, IfOk, IfSome, drop, length};
-ghost use Rattle.cs_tree.specs.KeepsStore.{KeepsStore};
-ghost use Rattle.cs_tree.specs.Store.{part_of};
-ghost use Rattle.cs_index.specs.Encoding.{IsString};
-ghost use Rattle.cs_state.specs.Known.{Known};
-ghost use Rattle.cs_state.specs.OtherReaders.{IsFirstOther, IsNextOther, ReadsOthers};
-ghost use Rattle.cs_state.specs.Others.{other_of};
+ghost use Rattle.cs_state.specs.Cited.{KeepsStore, part_of, IsString, Known, IsFirstOther, IsNextOther, ReadsOthers, other_of};
 
 use crate::others::{OtherFile, Unindexed};
 use crate::stamps::stamp_in;

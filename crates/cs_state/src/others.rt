@@ -1,8 +1,6 @@
 // Files of a project that no index has.
 ghost use Rattle.std.specs.Prelude.{◌≡◌, ◌≢◌, IfNone, IfSome};
-ghost use Rattle.cs_state.specs.Known.{Kept, indexed};
-ghost use Rattle.cs_state.specs.Others.{kept_of};
-ghost use Rattle.cs_state.specs.StateFile.{kept_byte};
+ghost use Rattle.cs_state.specs.Cited.{Kept, indexed, kept_of, kept_byte};
 
 use cs_tree::Stamp;
 

@@ -1,8 +1,6 @@
 // The stamps of the names of an index.
 ghost use Rattle.std.specs.Prelude.{◌≡◌, ◌<◌, ◌+◌, ◌*◌, ℕ, List, Some, IfOk, MatchOption, length, take};
-ghost use Rattle.cs_tree.specs.KeepsStore.{KeepsStore};
-ghost use Rattle.cs_state.specs.StampReaders.{IsStampAt, ReadsStamps};
-ghost use Rattle.cs_state.specs.StateFile.{stamp_bytes};
+ghost use Rattle.cs_state.specs.Cited.{KeepsStore, IsStampAt, ReadsStamps, stamp_bytes};
 
 use crate::opening::number;
 use crate::window::StoreWindow;

@@ -1,7 +1,6 @@
 // An open state file.
 ghost use Rattle.std.specs.Prelude.{◌≡◌, ℕ, List, Some, IfOk, IfSome};
-ghost use Rattle.cs_state.specs.OpenedStates.{HasIndex};
-ghost use Rattle.cs_state.specs.StateLengths.{AreWithin};
+ghost use Rattle.cs_state.specs.Cited.{HasIndex, AreWithin};
 
 use crate::first_bytes::FirstBytes;
 use crate::opening::read_lengths;

@@ -1,10 +1,6 @@
 // Bytes of a store that are tested by sums as they are read.
 ghost use Rattle.std.specs.Prelude.{◌≡◌, ◌≤◌, ◌<◌, ◌^◌, ℕ, List, Some, IfOk, OnOk, length, min, option_map, take};
-ghost use Rattle.cs_tree.specs.FailureCount.{count_after};
-ghost use Rattle.cs_tree.specs.Store.{ReadShows};
-ghost use Rattle.cs_tree.specs.Transfers.{is_io_failure};
-ghost use Rattle.cs_state.specs.Sums.{HasSum};
-ghost use Rattle.cs_state.specs.SummedStores.{KeepsBytes, ReadsSummed};
+ghost use Rattle.cs_state.specs.Cited.{count_after, ReadShows, is_io_failure, HasSum, KeepsBytes, ReadsSummed};
 
 use crate::summed_bytes::SummedBytes;
 use crate::sums::{PIECE_LEN, sum_bytes};

@@ -1,7 +1,6 @@
 // Outputs whose bytes are summed piece by piece.
 ghost use Rattle.std.specs.Prelude.{◌≡◌, ◌<◌, ◌++◌, [], IfOk, OnOk, length};
-ghost use Rattle.cs_state.specs.Sums.{sums_of};
-ghost use Rattle.cs_state.specs.SummedOutputs.{IsSummed, IsSummedIfWhole, bytes_given};
+ghost use Rattle.cs_state.specs.Cited.{sums_of, IsSummed, IsSummedIfWhole, bytes_given};
 
 use crate::summed_output::SummedOutput;
 use crate::sums::{PIECE_LEN, sum_bytes};

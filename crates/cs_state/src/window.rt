@@ -1,8 +1,6 @@
 // The bytes of a store that are in memory, from an offset on.
 ghost use Rattle.std.specs.Prelude.{◌≡◌, ◌≤◌, ◌<◌, ◌+◌, ◌-◌, ◌^◌, ℕ, List, Some, OnOk};
-ghost use Rattle.cs_tree.specs.KeepsStore.{KeepsStore};
-ghost use Rattle.cs_tree.specs.Store.{part_of};
-ghost use Rattle.cs_state.specs.Windows.{IsPiece};
+ghost use Rattle.cs_state.specs.Cited.{KeepsStore, part_of, IsPiece};
 
 use cs_tree::{IoFault, Store, read_part};
 use std::alloc::Global;

@@ -1,11 +1,7 @@
 // Writing a state.
 ghost use Rattle.std.specs.Prelude.{◌≡◌, ◌<◌, ◌^◌, ◌++◌, ◌∷◌, [], ℕ, List, IfOk, OnOk, length};
 ghost use Rattle.cs_tree.specs.declared.tree.Stamp.{Stamp};
-ghost use Rattle.cs_state.specs.Known.{Known};
-ghost use Rattle.cs_state.specs.Others.{other_of};
-ghost use Rattle.cs_state.specs.StateFile.{body_of, eight_bytes, stamp_bytes, state_bytes};
-ghost use Rattle.cs_state.specs.StateWriters.{Appends, HasWritten};
-ghost use Rattle.cs_state.specs.SummedOutputs.{IsSummedIfWhole, bytes_given};
+ghost use Rattle.cs_state.specs.Cited.{Known, other_of, body_of, eight_bytes, stamp_bytes, state_bytes, Appends, HasWritten, IsSummedIfWhole, bytes_given};
 
 use crate::others::Unindexed;
 use crate::state_writer::StateWriter;

@@ -40,3 +40,5 @@ pub mod ClassState
 pub mod U32Numbers
 pub mod PartialGroups
 pub mod ParserState
+-- What the contracts cite, passed on.
+pub mod Cited

@@ -1,11 +1,7 @@
 // Sets of bytes, as bitmaps of 256 bits.
 ghost use Rattle.std.specs.Prelude.{⊤, ◌≡◌, ◌+◌, ◌-◌, ◌<◌, ◌==◌, ◌||◌, ◌&&◌, nat_eq, nat_lt, ℕ, List, Bool, Option, IfSome, IfNone, length};
 ghost use Rattle.std.specs.Char.{is_ascii_alphabetic};
-ghost use Rattle.cs_syntax.specs.Members.{count, IsOnly};
-ghost use Rattle.cs_syntax.specs.Matching.{member};
-ghost use Rattle.cs_syntax.specs.ByteSet.{set_of, all_bytes, other_case, is_in_folded, char_set, union};
-ghost use Rattle.cs_syntax.specs.SetWords.{TestsAs};
-ghost use Rattle.cs_syntax.specs.Ranges.{is_in_ranges};
+ghost use Rattle.cs_syntax.specs.Cited.{count, IsOnly, member, set_of, all_bytes, other_case, is_in_folded, char_set, union, TestsAs, is_in_ranges};
 
 use std::marker::Model;
 

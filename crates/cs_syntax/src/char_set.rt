@@ -3,10 +3,7 @@ ghost use Rattle.std.specs.Prelude.{◌≡◌, ◌+◌, ◌<◌, ◌&&◌, ℕ, 
 ghost use Rattle.std.specs.Bool.{xor};
 ghost use Rattle.std.specs.Char.{scalar_index};
 ghost use Rattle.std.specs.List.Sorted.{IsNonDecreasingBy};
-ghost use Rattle.cs_syntax.specs.Ranges.{is_in_ranges};
-ghost use Rattle.cs_syntax.specs.Characters.{is_scalar, has_char, canonical_ranges};
-ghost use Rattle.cs_syntax.specs.CharRanges.{IsCharRange, AreCanonical};
-ghost use Rattle.cs_syntax.specs.ScalarIndex.{nth_scalar, scalar_ceil, scalar_floor};
+ghost use Rattle.cs_syntax.specs.Cited.{is_in_ranges, is_scalar, has_char, canonical_ranges, IsCharRange, AreCanonical, nth_scalar, scalar_ceil, scalar_floor};
 
 use std::alloc::{AllocError, Global};
 use std::marker::Model;

@@ -1,10 +1,6 @@
 // Characters of a line, found byte by byte: their steps, and the cuts of their numbers.
 ghost use Rattle.std.specs.Prelude.{◌≡◌, ℕ, ◌+◌, ◌*◌, ◌-◌, ◌^◌, ◌<◌, ◌≤◌, ◌++◌, IfOk, OnOk, length, slice_index};
-ghost use Rattle.cs_syntax.specs.CharSteps.{finished, unfinished_after, char_step, continued, is_split, unfinished_in, least_with};
-ghost use Rattle.cs_syntax.specs.Node.{tree_of};
-ghost use Rattle.cs_syntax.specs.NodeList.{trees_of};
-ghost use Rattle.cs_syntax.specs.Cuts.{AreCutsOf, floor, range_cuts, char_ranges, all_char_ranges};
-ghost use Rattle.cs_syntax.specs.CharRanges.{AreCanonical};
+ghost use Rattle.cs_syntax.specs.Cited.{finished, unfinished_after, char_step, continued, is_split, unfinished_in, least_with, tree_of, trees_of, AreCutsOf, floor, range_cuts, char_ranges, all_char_ranges, AreCanonical};
 
 use crate::char_set::is_scalar;
 use crate::node::Node;

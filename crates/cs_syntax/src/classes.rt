@@ -1,12 +1,6 @@
 // Bracket classes, such as `[a-z]` and `[^[:digit:]]`, and the character sets of classes and dots.
 ghost use Rattle.std.specs.Prelude.{◌≡◌, ◌+◌, ◌-◌, ◌*◌, ◌≤◌, ◌<◌, ◌^◌, ◌&&◌, ◌∷◌, not, nat_eq, true, ℕ, List, length, chars, slice_index, MatchResult, IfOk, IfSome, ◌||◌, [], false, OnOk};
-ghost use Rattle.cs_syntax.specs.Classes.{class_escape, class_char, range_to, range_from, span, name_length, class_by_name, posix_class, after_colon, after_backslash, class_token, items_from, class};
-ghost use Rattle.cs_syntax.specs.ClassState.{IsParsedClass, is_other_case};
-ghost use Rattle.cs_syntax.specs.ItemViews.{StaysWithin, IsTokenOf, class_token_view, class_char_view};
-ghost use Rattle.cs_syntax.specs.Ranges.{is_in_ranges};
-ghost use Rattle.cs_syntax.specs.ByteSet.{is_in_folded};
-ghost use Rattle.cs_syntax.specs.Characters.{is_scalar, has_char, canonical_ranges};
-ghost use Rattle.cs_syntax.specs.ClassSets.{ranges_of, is_in_item};
+ghost use Rattle.cs_syntax.specs.Cited.{class_escape, class_char, range_to, range_from, span, name_length, class_by_name, posix_class, after_colon, after_backslash, class_token, items_from, class, IsParsedClass, is_other_case, StaysWithin, IsTokenOf, class_token_view, class_char_view, is_in_ranges, is_in_folded, is_scalar, has_char, canonical_ranges, ranges_of, is_in_item};
 
 use crate::char_set::CharSet;
 use crate::escapes::{escaped_char, escaped_class, is_unsupported_escape};

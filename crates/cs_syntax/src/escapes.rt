@@ -1,9 +1,7 @@
 // Parses escapes. Each function is given the text after the backslash.
 ghost use Rattle.std.specs.Prelude.{◌≡◌, ◌+◌, ◌≤◌, ◌<◌, ℕ, List, length, min, IfSome};
 ghost use Rattle.std.specs.Option.{option_map};
-ghost use Rattle.cs_syntax.specs.Tokens.{char_tree};
-ghost use Rattle.cs_syntax.specs.ItemViews.{StaysWithin, token_view, atom_tree};
-ghost use Rattle.cs_syntax.specs.Escapes.{char_by_number, octal_char, hex_char_in_braces, hex_char, control_char, escaped_char, escaped_class, is_unsupported_escape, escaped_tree, char_token, escape};
+ghost use Rattle.cs_syntax.specs.Cited.{char_tree, StaysWithin, token_view, atom_tree, char_by_number, octal_char, hex_char_in_braces, hex_char, control_char, escaped_char, escaped_class, is_unsupported_escape, escaped_tree, char_token, escape};
 
 use crate::byte_set::{ByteSet, is_letter};
 use crate::fault::PatternFault;

@@ -2,13 +2,7 @@
 ghost use Rattle.std.specs.Prelude.{◌≡◌, ◌+◌, ◌∷◌, length, ◌≤◌, ◌<◌, ◌^◌, ℕ, List, codes, IfSome};
 ghost use Rattle.std.specs.List.{prefix_len};
 ghost use Rattle.std.specs.Option.{option_map};
-ghost use Rattle.cs_syntax.specs.Items.{next_token};
-ghost use Rattle.cs_syntax.specs.ItemViews.{StaysWithin, IsTokenOf, token_view, item_view};
-ghost use Rattle.cs_syntax.specs.Matching.{is_word};
-ghost use Rattle.cs_syntax.specs.NumberList.{has};
-ghost use Rattle.cs_syntax.specs.Groups.{name, with_set, with_cleared, after_flags, cleared_flags, set_flags, head, group};
-ghost use Rattle.cs_syntax.specs.Tokens.{item};
-ghost use Rattle.cs_syntax.specs.Repeats.{number, counts_to, counts_from, counts, is_bad, brace, lazy};
+ghost use Rattle.cs_syntax.specs.Cited.{next_token, StaysWithin, IsTokenOf, token_view, item_view, is_word, has, name, with_set, with_cleared, after_flags, cleared_flags, set_flags, head, group, item, number, counts_to, counts_from, counts, is_bad, brace, lazy};
 
 use crate::byte_set::ByteSet;
 use crate::char_set::CharSet;

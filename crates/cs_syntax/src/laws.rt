@@ -1,24 +1,10 @@
 // Laws: properties of the definitions, with no code.
 ghost use Rattle.std.specs.Prelude.{◌↔◌, ◌≡◌, ◌≢◌, ◌<◌, ◌≤◌, ◌^◌, ◌&&◌, [], ◌∷◌, ◌++◌, ℕ, Bool, true, List, Some, IsUtf8, length};
 ghost use Rattle.std.specs.Str.{chars};
-ghost use Rattle.cs_syntax.specs.Characters.{is_scalar, has_char, canonical_ranges};
-ghost use Rattle.cs_syntax.specs.CharRanges.{AreCanonical};
-ghost use Rattle.cs_syntax.specs.Determinism.{HasOneParse};
-ghost use Rattle.cs_syntax.specs.Levels.{HasLevels};
-ghost use Rattle.cs_syntax.specs.Cuts.{Divide, AreCuts, AreCutsOf, char_ranges, floor};
-ghost use Rattle.cs_syntax.specs.CharSteps.{taken_at, MatchesEntered};
-ghost use Rattle.cs_syntax.specs.Matching.{Tree, one_of, rep};
-ghost use Rattle.cs_syntax.specs.BarredPatterns.{IsSelfContained, MatchesEither};
-ghost use Rattle.cs_syntax.specs.Joining.{either, MatchesWholeLine};
-ghost use Rattle.cs_syntax.specs.ByteSet.{char_set};
-ghost use Rattle.cs_syntax.specs.ByteKinds.{byte_kind_of};
-ghost use Rattle.cs_syntax.specs.Tokens.{sequence};
-ghost use Rattle.cs_syntax.specs.Repeats.{max_repeat};
-ghost use Rattle.cs_syntax.specs.Quoting.{counted_repeat, quote_meta, atoms_of};
+ghost use Rattle.cs_syntax.specs.Cited.{is_scalar, has_char, canonical_ranges, AreCanonical, HasOneParse, HasLevels, Divide, AreCuts, AreCutsOf, char_ranges, floor, taken_at, MatchesEntered, Tree, one_of, rep, IsSelfContained, MatchesEither, either, MatchesWholeLine, char_set, byte_kind_of, sequence, max_repeat, counted_repeat, quote_meta, atoms_of, ParsesAs, HasSyntaxError, IsTextFault, Group, Level, levels, parse_suffix};
 ghost use Rattle.std.specs.List.{AllByRecursion};
 ghost use Rattle.cs_syntax.specs.declared.items.ByteKind.TheVariants.{Literal};
 ghost use Rattle.cs_syntax.specs.declared.fault.PatternFault.TheVariants.{BadRepeat};
-ghost use Rattle.cs_syntax.specs.Parsing.{ParsesAs, HasSyntaxError, IsTextFault, Group, Level, levels, parse_suffix};
 ghost use Rattle.cs_syntax.specs.declared.items.Before.{Before};
 ghost use Rattle.cs_syntax.specs.declared.items.Flags.{Flags};
 ghost use Rattle.cs_syntax.specs.declared.fault.PatternFault.{PatternFault};

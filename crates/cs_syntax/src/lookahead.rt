@@ -1,8 +1,7 @@
 // Look-ahead in the text of a pattern: bytes and numbers.
 ghost use Rattle.std.specs.Prelude.{◌≡◌, ◌≤◌, length, ◌+◌, ◌*◌, ◌<◌, min};
 ghost use Rattle.std.specs.List.{prefix_len};
-ghost use Rattle.cs_syntax.specs.Tokens.{starts_with_byte, is_continuation};
-ghost use Rattle.cs_syntax.specs.Numbers.{digit_value, is_digit, count_digits, number_of_digits};
+ghost use Rattle.cs_syntax.specs.Cited.{starts_with_byte, is_continuation, digit_value, is_digit, count_digits, number_of_digits};
 
 /// Whether the text starts with the byte.
 pub(crate) fn starts_with_byte(byte: u8, text: &[u8]) -> bool

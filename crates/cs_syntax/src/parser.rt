@@ -1,15 +1,7 @@
 // The parser: one pass over the text, with an explicit stack of the open groups (as in RE2), and
 // the trees of groups and atoms.
 ghost use Rattle.std.specs.Prelude.{◌≡◌, ◌+◌, ◌<◌, ◌≤◌, ℕ, OnOk, IfOk, IfErr, length, Option};
-ghost use Rattle.cs_syntax.specs.Tokens.{atom, repeat, bar, group_start, group_end, flags_from_here, sequence, bytes_tree};
-ghost use Rattle.cs_syntax.specs.Node.{tree_of};
-ghost use Rattle.cs_syntax.specs.Parsing.{ParsesAs, parse_result, tree};
-ghost use Rattle.cs_syntax.specs.ParseErrors.{IsParseError};
-ghost use Rattle.cs_syntax.specs.ItemViews.{atom_tree, item_view};
-ghost use Rattle.cs_syntax.specs.Weight.{max_weight, weight};
-ghost use Rattle.cs_syntax.specs.NodeList.{trees_of};
-ghost use Rattle.cs_syntax.specs.PartialGroups.{with_last_atom, with_last_atom_repeated, with_last_branch, tree_so_far, empty_group};
-ghost use Rattle.cs_syntax.specs.CharTrees.{are_ascii, ranges_tree};
+ghost use Rattle.cs_syntax.specs.Cited.{atom, repeat, bar, group_start, group_end, flags_from_here, sequence, bytes_tree, tree_of, ParsesAs, parse_result, tree, IsParseError, atom_tree, item_view, max_weight, weight, trees_of, with_last_atom, with_last_atom_repeated, with_last_branch, tree_so_far, empty_group, are_ascii, ranges_tree, IsErrorOf};
 
 use crate::byte_set::ByteSet;
 use crate::char_set::CharSet;
@@ -321,8 +313,6 @@ impl GroupBuilder {
         Ok(Node::Alt(branches))
     }
 }
-
-ghost use Rattle.cs_syntax.specs.ParserState.{IsErrorOf};
 
 /// Parses a pattern. The syntax is RE2's, with the differences that docs/PATTERNS.md lists. With
 /// `fold` an ASCII letter matches both of its cases, until a flag clears that. The error is the

@@ -3,18 +3,7 @@
 // `regexpInfo` in Go; those of the last parts of a sequence and of the last branches of an
 // alternation grow part by part from the last to the first (`concat` and `alternate`).
 ghost use Rattle.std.specs.Prelude.{◌≡◌, ◌<◌, ℕ, true, IfOk, Bool, OnOk, Option, map, reverse};
-ghost use Rattle.cs_trigram.specs.TrigramSets.{trigram_count};
-ghost use Rattle.cs_syntax.specs.Matching.{cat, alt, Tree, rep, Trees, none, more};
-ghost use Rattle.cs_syntax.specs.Node.{tree_of};
-ghost use Rattle.cs_syntax.specs.NodeList.{trees_of};
-ghost use Rattle.cs_trigram.specs.Query.{LosesNoLine, IsSmall, mentions};
-ghost use Rattle.cs_trigram.specs.ExactQuery.{HasFewExactStrings, RequiresExactString};
-ghost use Rattle.cs_trigram.specs.ExactRuns.{IsSelective, HasRunsWithin};
-ghost use Rattle.cs_trigram.specs.MayMatch.{MentionsTrigramsOf};
-ghost use Rattle.cs_trigram.specs.RegexpInfo.{IsInfoOf, IsSequence, IsAlternation};
-ghost use Rattle.cs_trigram.specs.ExactSet.{IsExactSetOf};
-ghost use Rattle.cs_trigram.specs.EndStrings.{forward, backward, whole_ends, AreEndStrings};
-ghost use Rattle.cs_trigram.specs.Analysis.{AreExactStrings, IsCorrect, IsMatchQuery};
+ghost use Rattle.cs_trigram.specs.Cited.{trigram_count, cat, alt, Tree, rep, Trees, none, more, tree_of, trees_of, LosesNoLine, IsSmall, mentions, HasFewExactStrings, RequiresExactString, IsSelective, HasRunsWithin, MentionsTrigramsOf, IsInfoOf, IsSequence, IsAlternation, IsExactSetOf, forward, backward, whole_ends, AreEndStrings, AreExactStrings, IsCorrect, IsMatchQuery};
 
 use crate::end_strings::{
     EndString, add_end_strings, bare_end_string, concatenate_end_strings, end_strings_of,

@@ -5,11 +5,7 @@
 // first.
 ghost use Rattle.std.specs.Prelude.{◌≡◌, ◌<◌, ◌≤◌, ◌++◌, [], ◌∷◌, length, IfOk, MatchOption, OnOk, Option, ℕ, ◌+◌, ◌-◌, ◌*◌, ◌^◌, Bool, true, map, min, reverse};
 ghost use Rattle.std.specs.List.{list_any};
-ghost use Rattle.cs_syntax.specs.Matching.{Tree, rep};
-ghost use Rattle.cs_trigram.specs.EndStrings.{Direction, subsumes, AreCoarser, AreConcatenations, AreEndStrings, truncated, with_end_string, with_end_strings, concatenated, end_product, all_truncated, whole_ends, AreShort};
-ghost use Rattle.cs_trigram.specs.Query.{matches_set, query_size};
-ghost use Rattle.cs_trigram.specs.Analysis.{cross_size, has_any};
-ghost use Rattle.cs_trigram.specs.SequenceQuery.{IsCrossQuery, HasPairs, pairs};
+ghost use Rattle.cs_trigram.specs.Cited.{Tree, rep, Direction, subsumes, AreCoarser, AreConcatenations, AreEndStrings, truncated, with_end_string, with_end_strings, concatenated, end_product, all_truncated, whole_ends, AreShort, matches_set, query_size, cross_size, has_any, IsCrossQuery, HasPairs, pairs};
 
 use crate::exact_set::ExactString;
 use crate::queries::{Query, add_conjunct, any_string};

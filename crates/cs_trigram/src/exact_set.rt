@@ -2,16 +2,7 @@
 // of character classes and repeats by expansion.
 ghost use Rattle.std.specs.Prelude.{◌≡◌, true, not, IfOk, MatchOption, nat_lt, ◌≤◌, ◌++◌, IsTrue, [], OnOk, length, map, reverse, ◌+◌, ℕ, List, ◌∷◌, if◌then◌else◌, encode_utf8, Some};
 ghost use Rattle.std.specs.List.{list_all};
-ghost use Rattle.cs_syntax.specs.Matching.{Tree, Trees, cat, alt, more, member, one_of, one_char, rep};
-ghost use Rattle.cs_trigram.specs.ExactStrings.{is_finite};
-ghost use Rattle.cs_trigram.specs.ExactQuery.{HasFewExactStrings};
-ghost use Rattle.cs_trigram.specs.Analysis.{AreExactStrings, EnumeratesTree, with_string, with_strings, concatenations, IsEnumeration};
-ghost use Rattle.cs_trigram.specs.ExactSet.{IsExactSetOf, TellsEmpty};
-ghost use Rattle.cs_tree.specs.Cover.{is_among};
-ghost use Rattle.cs_tree.specs.Folders.{are_distinct};
-ghost use Rattle.cs_trigram.specs.MayMatch.{MayMatch};
-ghost use Rattle.cs_syntax.specs.CharRanges.{IsCharRange};
-ghost use Rattle.cs_syntax.specs.Characters.{is_scalar};
+ghost use Rattle.cs_trigram.specs.Cited.{Tree, Trees, cat, alt, more, member, one_of, one_char, rep, is_finite, HasFewExactStrings, AreExactStrings, EnumeratesTree, with_string, with_strings, concatenations, IsEnumeration, IsExactSetOf, TellsEmpty, is_among, are_distinct, MayMatch, IsCharRange, is_scalar};
 
 use cs_syntax::{ByteSet, CharSet};
 use std::alloc::{AllocError, Global};

@@ -1,16 +1,10 @@
 //! Laws of the definitions: these functions do nothing, and their contracts follow from the
 //! definitions alone.
 ghost use Rattle.std.specs.Prelude.{◌≡◌, ◌<◌, ◌++◌, ◌∷◌, ℕ, Bool, List, [], Some, None, length, true};
-ghost use Rattle.cs_trigram.specs.Scans.{scan_outcome_of, text, skipped_for};
+ghost use Rattle.cs_trigram.specs.Cited.{scan_outcome_of, text, skipped_for, ends, Tree, HasMatch, trigram, tri, closing_trigram, Ascends, has, HasTrigrams, HasExactRuns, first_broken, skip, text_trigrams};
 ghost use Rattle.std.specs.List.{AllByRecursion};
-ghost use Rattle.cs_tree.specs.StreamModels.{ends};
-ghost use Rattle.cs_syntax.specs.Matching.{Tree, HasMatch};
 ghost use Rattle.cs_trigram.specs.declared.scan.Limits.{Limits};
 ghost use Rattle.cs_trigram.specs.declared.scan.Reason.{Reason};
-ghost use Rattle.cs_trigram.specs.Trigram.{trigram, tri, closing_trigram, Ascends, has};
-ghost use Rattle.cs_trigram.specs.Query.{HasTrigrams};
-ghost use Rattle.cs_trigram.specs.ExactRuns.{HasExactRuns};
-ghost use Rattle.cs_trigram.specs.Text.{first_broken, skip, text_trigrams};
 
 /// The trigrams of some bytes ascend. They are the numbers of the substrings of three bytes, and no
 /// others.

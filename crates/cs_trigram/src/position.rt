@@ -2,9 +2,7 @@
 // each byte, and only a chunk that fails is tested byte by byte.
 ghost use Rattle.std.specs.Prelude.{◌≡◌, ◌+◌, ◌<◌, ◌≤◌, ◌^◌, ◌&&◌, nat_le, ℕ, List, [], ◌∷◌, ◌++◌, None, length, IfOk, ◌-◌, IsTrue, IfSome, Ok};
 ghost use Rattle.std.specs.List.{AllByRecursion};
-ghost use Rattle.cs_trigram.specs.Text.{valid_utf8_pair, rule_broken};
-ghost use Rattle.cs_trigram.specs.Position.{AreSmallLimits, IsPositionAfter, IsAdvancedBy, ValidatesFrom};
-ghost use Rattle.cs_trigram.specs.FastPath.{LinesFit, column_after, AreValidPairs};
+ghost use Rattle.cs_trigram.specs.Cited.{valid_utf8_pair, rule_broken, AreSmallLimits, IsPositionAfter, IsAdvancedBy, ValidatesFrom, LinesFit, column_after, AreValidPairs};
 
 use crate::scan::{Limits, Reason};
 use memchr::{memchr, memrchr};

@@ -2,11 +2,7 @@
 // codesearch).
 ghost use Rattle.std.specs.Prelude.{◌≡◌, ◌+◌, ◌-◌, ◌<◌, ◌≤◌, ◌&&◌, ◌||◌, ℕ, Bool, IsTrue, IfOk, OnOk, length};
 ghost use Rattle.std.specs.List.{sum_by};
-ghost use Rattle.cs_trigram.specs.Trigram.{trigram};
-ghost use Rattle.cs_trigram.specs.TrigramSets.{trigram_count};
-ghost use Rattle.cs_tree.specs.Cover.{is_among};
-ghost use Rattle.cs_trigram.specs.Query.{matches_set, mentions, query_size};
-ghost use Rattle.cs_trigram.specs.Analysis.{all_match, some_matches, some_mentions, has_any, MentionsOnly, RequiresText};
+ghost use Rattle.cs_trigram.specs.Cited.{trigram, trigram_count, is_among, matches_set, mentions, query_size, all_match, some_matches, some_mentions, has_any, MentionsOnly, RequiresText};
 
 use crate::exact_set::ExactString;
 use std::alloc::{AllocError, Global};

@@ -1,18 +1,8 @@
 // The scanner of indexed files: reads a file block by block, tests the text rules and collects the
 // trigrams.
 ghost use Rattle.std.specs.Prelude.{◌≡◌, ◌+◌, IfOk, ◌<◌, ◌≤◌, ℕ, List, ◌++◌, length, take, drop, [], None, Ok};
-ghost use Rattle.cs_tree.specs.ConsumesAtMost.{ConsumesAtMost};
-ghost use Rattle.cs_trigram.specs.Scans.{AreDistinctTrigrams, IfText, IsScanOf, is_scan_failure, ReportsScan, scan_outcome_of};
-ghost use Rattle.cs_trigram.specs.Trigram.{set_of_numbers};
-ghost use Rattle.cs_trigram.specs.TrigramSets.{IsTrigramSet, AreDistinct};
-ghost use Rattle.cs_tree.specs.FailureCount.{count_after};
-ghost use Rattle.cs_trigram.specs.Text.{limits, first_broken};
-ghost use Rattle.cs_tree.specs.Transfers.{ReadGives, is_io_failure};
-ghost use Rattle.cs_trigram.specs.Blocks.{last_two, Carries};
-ghost use Rattle.cs_tree.specs.StreamModels.{ends};
-ghost use Rattle.cs_trigram.specs.Position.{AreSmallLimits};
+ghost use Rattle.cs_trigram.specs.Cited.{ConsumesAtMost, AreDistinctTrigrams, IfText, IsScanOf, is_scan_failure, ReportsScan, scan_outcome_of, set_of_numbers, IsTrigramSet, AreDistinct, count_after, limits, first_broken, ReadGives, is_io_failure, last_two, Carries, ends, AreSmallLimits, HasSeenBytes, IsSound, numbers_of};
 ghost use Rattle.cs_trigram.specs.declared.seen_trigrams.TheConstants.{WITH_TWO};
-ghost use Rattle.cs_trigram.specs.SeenTrigrams.{HasSeenBytes, IsSound, numbers_of};
 
 use crate::position::{TextPosition, validate};
 use crate::scan::{LIMITS, Limits, Reason, Scan, ScanFault};

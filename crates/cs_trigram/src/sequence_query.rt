@@ -2,13 +2,7 @@
 // what the other parts require.
 ghost use Rattle.std.specs.Prelude.{◌≡◌, IfOk, OnOk, MatchOption};
 ghost use Rattle.std.specs.List.{list_all};
-ghost use Rattle.cs_syntax.specs.Matching.{Tree, Trees, none, more, cat};
-ghost use Rattle.cs_trigram.specs.ExactQuery.{HasFewExactStrings};
-ghost use Rattle.cs_trigram.specs.EndStrings.{forward, backward, AreEndStrings};
-ghost use Rattle.cs_trigram.specs.ExactSet.{IsExactSetOf, AreExactSetsReversed};
-ghost use Rattle.cs_trigram.specs.Analysis.{cross_size, IsCorrect, IsMatchQuery, AreExactStrings, IsLongestLeadingRun};
-ghost use Rattle.cs_syntax.specs.TreeList.{append};
-ghost use Rattle.cs_trigram.specs.ExactStrings.{HaveFewExactStrings};
+ghost use Rattle.cs_trigram.specs.Cited.{Tree, Trees, none, more, cat, HasFewExactStrings, forward, backward, AreEndStrings, IsExactSetOf, AreExactSetsReversed, cross_size, IsCorrect, IsMatchQuery, AreExactStrings, IsLongestLeadingRun, append, HaveFewExactStrings};
 
 use crate::end_strings::{EndString, cross_product_query};
 use crate::exact_set::{

@@ -9,3 +9,5 @@ pub mod Reads
 pub mod NewStates
 pub mod MergedLists
 pub mod Written
+-- What the contracts cite, passed on.
+pub mod Cited

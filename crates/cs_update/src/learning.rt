@@ -1,10 +1,6 @@
 // Learning files.
 ghost use Rattle.std.specs.Prelude.{◌≡◌, ◌++◌, List, [], true, IfOk, OnOk, Some, map, option_to_list, string_bytes};
-ghost use Rattle.cs_tree.specs.Snapshot.{Snapshot};
-ghost use Rattle.cs_trigram.specs.Scans.{AreDistinctTrigrams};
-ghost use Rattle.cs_trigram.specs.Trigram.{set_of_numbers};
-ghost use Rattle.cs_update.specs.Contents.{found_content, has_distinct, text, unindexed};
-ghost use Rattle.cs_update.specs.Learning.{HasLearned, IsProjectName, LearnedFile, all_learned, items_below, learned_if_old, seen_of, with_learned};
+ghost use Rattle.cs_update.specs.Cited.{Snapshot, AreDistinctTrigrams, set_of_numbers, found_content, has_distinct, text, unindexed, HasLearned, IsProjectName, LearnedFile, all_learned, items_below, learned_if_old, seen_of, with_learned};
 
 use crate::age::is_old;
 use crate::call::UpdateCall;

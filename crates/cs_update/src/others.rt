@@ -1,15 +1,9 @@
 // The files that no index has, after an update.
 ghost use Rattle.std.specs.Prelude.{◌≡◌, ◌++◌, [], true, ℕ, List, Some, IfOk, OnOk, map, string_bytes};
 ghost use Rattle.std.specs.List.{AllByRecursion};
-ghost use Rattle.cs_tree.specs.NamesAscending.{are_ascending};
+ghost use Rattle.cs_update.specs.Cited.{are_ascending, HasLeft, Known, known_of, IsOther, HasBegun, HasOthersOf, IsOtherOf};
 ghost use Rattle.cs_tree.specs.PathSet as set;
 ghost use Rattle.cs_tree.specs.declared.tree.Stamp.{Stamp};
-ghost use Rattle.cs_known.specs.OtherFiles.{HasLeft};
-ghost use Rattle.cs_state.specs.Known.{Known};
-ghost use Rattle.cs_state.specs.OtherReaders.{known_of};
-ghost use Rattle.cs_state.specs.ProjectStates.{IsOther};
-ghost use Rattle.cs_update.specs.NewStates.{HasBegun, HasOthersOf};
-ghost use Rattle.cs_update.specs.OldTexts.{IsOtherOf};
 
 use crate::fault::UpdateFault;
 use crate::new_state::NewState;

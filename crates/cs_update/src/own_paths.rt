@@ -1,8 +1,7 @@
 // The paths of the own index.
 ghost use Rattle.std.specs.Prelude.{◌≡◌, IfOk, map, string_bytes};
 ghost use Rattle.cs_tree.specs.PathSet as set;
-ghost use Rattle.cs_update.specs.Learning.{seen_of};
-ghost use Rattle.cs_update.specs.Updating.{paths_seen};
+ghost use Rattle.cs_update.specs.Cited.{seen_of, paths_seen};
 
 use cs_known::SeenFile;
 use cs_tree::reduce;

@@ -1,8 +1,6 @@
 // Reading one file.
 ghost use Rattle.std.specs.Prelude.{◌≡◌, IfOk, IfSome, false, option_map};
-ghost use Rattle.cs_tree.specs.Snapshot.{item_at};
-ghost use Rattle.cs_update.specs.Contents.{found_content, has_distinct, item_content};
-ghost use Rattle.cs_update.specs.Reads.{IsFoundIn, IsReadToEnd};
+ghost use Rattle.cs_update.specs.Cited.{item_at, found_content, has_distinct, item_content, IsFoundIn, IsReadToEnd};
 
 use crate::found::Found;
 use crate::watched::Watched;

@@ -1,12 +1,9 @@
 // The stamps of the merged index.
 ghost use Rattle.std.specs.Prelude.{◌≡◌, ◌+◌, ◌-◌, ◌<◌, ◌++◌, ◌∷◌, [], true, false, ℕ, List, Some, IfSome, IfOk, OnOk, drop, length, map, option_map, slice_get, string_bytes, take};
 ghost use Rattle.std.specs.List.{AllByRecursion, zip};
-ghost use Rattle.cs_tree.specs.NamesAscending.{are_ascending};
+ghost use Rattle.cs_update.specs.Cited.{are_ascending, after, before, merged, own_left, stamps_in, uncovered, HasBegun, HasStamps};
 ghost use Rattle.cs_tree.specs.PathSet as set;
 ghost use Rattle.cs_tree.specs.declared.tree.Stamp.{Stamp};
-ghost use Rattle.cs_update.specs.MergedLists.{after, before, merged, own_left, stamps_in, uncovered};
-ghost use Rattle.cs_update.specs.NewStates.{HasBegun};
-ghost use Rattle.cs_update.specs.OldTexts.{HasStamps};
 
 use crate::fault::UpdateFault;
 use crate::new_state::NewState;

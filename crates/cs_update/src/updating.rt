@@ -1,21 +1,7 @@
 // A first state, and the update of one.
 ghost use Rattle.std.specs.Prelude.{◌≡◌, ◌∷◌, [], true, ℕ, List, Some, IfOk, length, map, string_bytes};
 ghost use Rattle.std.specs.List.{AllByRecursion};
-ghost use Rattle.cs_tree.specs.NamesAscending.{are_ascending};
-ghost use Rattle.cs_tree.specs.Snapshot.{Snapshot};
-ghost use Rattle.cs_index.specs.Encoding.{names_of};
-ghost use Rattle.cs_index.specs.OpenedParts.{Parts};
-ghost use Rattle.cs_index.specs.Tables.{TablesIn};
-ghost use Rattle.cs_known.specs.Learned.{Run};
-ghost use Rattle.cs_merge.specs.MergeResult.{IsMerged, most_bytes};
-ghost use Rattle.cs_state.specs.Known.{ProjectState};
-ghost use Rattle.cs_state.specs.OtherReaders.{known_of};
-ghost use Rattle.cs_state.specs.ProjectStates.{IsOther};
-ghost use Rattle.cs_state.specs.StateLengths.{AreWithin};
-ghost use Rattle.cs_update.specs.NewStates.{HasBegun};
-ghost use Rattle.cs_update.specs.OldTexts.{IsOpenState};
-ghost use Rattle.cs_update.specs.Updating.{IsFirstState, IsUpdatedState, SawFiles, seen_by};
-ghost use Rattle.cs_update.specs.Written.{IsMergedState, IsWritten};
+ghost use Rattle.cs_update.specs.Cited.{are_ascending, Snapshot, names_of, Parts, TablesIn, Run, IsMerged, most_bytes, ProjectState, known_of, IsOther, AreWithin, HasBegun, IsOpenState, IsFirstState, IsUpdatedState, SawFiles, seen_by, IsMergedState, IsWritten};
 
 use crate::call::UpdateCall;
 use crate::counted_output::CountedOutput;

@@ -1,13 +1,8 @@
 // Writing a state after its index.
 ghost use Rattle.std.specs.Prelude.{◌≡◌, ◌<◌, ◌^◌, ◌++◌, ◌∷◌, [], ℕ, List, IfOk, OnOk, length, map};
 ghost use Rattle.cs_tree.specs.declared.tree.Stamp.{Stamp};
-ghost use Rattle.cs_state.specs.Known.{Known};
-ghost use Rattle.cs_state.specs.OtherReaders.{known_of};
-ghost use Rattle.cs_state.specs.ProjectStates.{HasNumbers, IsOther};
+ghost use Rattle.cs_update.specs.Cited.{Known, known_of, HasNumbers, IsOther, state_bytes, IsSummedIfWhole, bytes_given, HasBegun};
 ghost use Rattle.std.specs.List.{AllByRecursion};
-ghost use Rattle.cs_state.specs.StateFile.{state_bytes};
-ghost use Rattle.cs_state.specs.SummedOutputs.{IsSummedIfWhole, bytes_given};
-ghost use Rattle.cs_update.specs.NewStates.{HasBegun};
 
 use crate::fault::UpdateFault;
 use crate::new_state::NewState;

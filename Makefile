@@ -6,7 +6,7 @@ program = crates/codesearch/out/codesearch
 object = $(program).o
 # The library for C and Rust: the archive, the shared object and codesearch.pc stand in one folder.
 library = out/lib/libcodesearch.a
-sources = crates.txt $(shell find crates -type d \( -name out -o -name must-fail \) -prune -o -type f ! -name promises.txt ! -name judged.txt -print)
+sources = crates.txt $(shell find crates -type d \( -name out -o -name must-fail -o -name mutants \) -prune -o -type f ! -name promises.txt ! -name judged.txt -print)
 
 .PHONY: help try check quick test wrong mutants trusted promises program lib bench install uninstall dist deb
 

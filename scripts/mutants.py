@@ -1,5 +1,5 @@
 #!/usr/bin/env python3
-"""Judges each mutant by itself: those that `rt ci` tries, must-fail/*.edit, and the others, must-fail/*.md. A file of several
+"""Judges each mutant by itself: those that `rt ci` tries, must-fail/*.edit, and the others, mutants/*.mutants. A file of several
 mutants has a line `# NAME` before each, and `rt ci` counts it as refused if one of them is.
 usage: scripts/mutants.py [CRATE | CRATE/NAME]..
 
@@ -125,13 +125,18 @@ def note_judged(crate, verdicts):
 def mutants(crate):
     """The mutants of a crate."""
     found = {}
-    for file in sorted([*crate.glob("must-fail/*.edit"), *crate.glob("must-fail/*.md")]):
+    for file in sorted([*crate.glob("must-fail/*.edit"), *crate.glob("mutants/*.mutants")]):
         parts = NAME.split(file.read_text())
         for name, text in zip(parts[1::2], parts[2::2]) if parts[1:] else [(file.stem, parts[0])]:
             if name in found:
                 sys.exit(f"{crate.name}: two mutants have the name {name}")
             found[name] = Mutant(crate, name, text)
     return [*found.values()]
+
+
+def with_mutants(folder):
+    """The crates of a folder that have mutants."""
+    return sorted({it.parent for name in ("must-fail", "mutants") for it in folder.glob(f"*/{name}")})
 
 
 def changed(crate, chosen):
@@ -307,7 +312,7 @@ def judge(crate, wanted):
 
 
 def main():
-    given = sys.argv[1:] or [it.parent.name for it in sorted(top.glob("crates/*/must-fail"))]
+    given = sys.argv[1:] or [it.name for it in with_mutants(top / "crates")]
     names = [*dict.fromkeys(it.partition("/")[0] for it in given)]
     wanted = lambda name: {it.partition("/")[2] for it in given if it.startswith(name + "/")}
     leave = lambda at, files: {"incremental"} & {*files} if Path(at).parent.name not in names else set()

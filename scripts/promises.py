@@ -16,7 +16,7 @@ from collections import defaultdict
 from pathlib import Path
 
 sys.dont_write_bytecode = True
-from mutants import Mutant, is_judged, mutants
+from mutants import Mutant, is_judged, mutants, with_mutants
 from trusted import imports, reached, words
 
 top = Path(__file__).resolve().parent.parent
@@ -52,7 +52,7 @@ def functions():
 
 
 code = functions()
-edits = {it.parent.name: {found.name: found for found in mutants(it.parent)} for it in crates.glob("*/must-fail")}
+edits = {it.name: {found.name: found for found in mutants(it)} for it in with_mutants(crates)}
 fields = defaultdict(set)
 for file in crates.glob("*/specs/**/*.antt"):
     record = ""
@@ -105,7 +105,7 @@ class Promise:
     def mutant(self, name):
         crate, _, name = name.rpartition("/")
         crate = crate or self.crate
-        if name not in edits[crate] and not any(it.stem == name for it in (crates / crate / "must-fail").glob("*.*")):
+        if name not in edits[crate] and not any(it.stem == name for it in (crates / crate).glob("m*/*.[em]*")):
             self.errors.append(f"no mutant {name} in {crate}")
         return crate, name
 
@@ -143,7 +143,7 @@ def unnamed(page, listed):
 
 def listing(all_promises):
     """The list, in Markdown."""
-    yield "# Promises, clause by clause\n\nMade by scripts/promises.py from promises.txt, must-fail/, src and specs/ of each crate.\n"
+    yield "# Promises, clause by clause\n\nMade by scripts/promises.py from promises.txt, must-fail/, mutants/, src and specs/ of each crate.\n"
     for crate, listed in all_promises.items():
         yield f"\n## {crate}\n"
         for it in listed:

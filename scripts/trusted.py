@@ -66,10 +66,13 @@ def imports(text, words=None):
     """The files that the text imports; with `words` only those imports that have one of them."""
     for crate, module, items, alias in IMPORT.findall(text):
         names = [item.split(" as ")[-1].strip() for item in items.split(",")] if items else [alias or module.split(".")[-1]]
-        if words is None or any(name in words for name in names):
-            file = spec(crate, module)
-            if file:
-                yield file
+        if words is not None:
+            names = [name for name in names if name in words]
+        file = names and spec(crate, module)
+        if file and module == "Cited":
+            yield from imports(file.read_text(), names)
+        elif file:
+            yield file
 
 
 def cited(name, path, wanted):

@@ -31,7 +31,7 @@ def read(path):
 files = {path: read(path) for path in run("sh", "-c", LIST).split("\n") if path and (top / path).exists()}
 pages = [path for path in files if path.endswith(".md") and not path.startswith("crates/")]
 folded = {path.rpartition("/")[2]: path for path in pages}
-edits = {path: text for path, text in files.items() if "/must-fail/" in path}
+edits = {path: text for path, text in files.items() if re.search("/(must-fail|mutants)/", path)}
 mutants = {name for path, text in edits.items() for name in [Path(path).stem, *re.findall(r"^# (\w+)$", text, re.M)]}
 mutants |= {path.split("/")[1] for path in files if path.startswith("crates/")}
 words = {word for path, text in files.items() if path not in pages for word in re.findall(r"\w+", text)}

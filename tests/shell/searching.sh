@@ -108,7 +108,7 @@ wo+rd
 ^}$
 pub (fn|struct|enum)
 (ab|cd)(ef|gh)
-must-fail|proofs
+mutants|proofs
 Ok\(\(\)\)
 while let Some
 // .*\.$

@@ -4,7 +4,7 @@ pub use Rattle.cs_prefilter.specs.OffsetWork.{offset_work}
 pub use Rattle.cs_prefilter.specs.WordAt.{IsPrefilterOf}
 pub use Rattle.cs_syntax.specs.CharSteps.{finished, unfinished_after}
 pub use Rattle.cs_syntax.specs.Cuts.{AreCutsOf}
-pub use Rattle.cs_syntax.specs.Matching.{HasMatch, Tree, Trees, alt, cat, is_at_word_boundary, is_word, member, more, rep, word_after, word_before}
+pub use Rattle.cs_syntax.specs.Matching.{HasMatch, Tree, Trees, alt, cat, is_at_word_boundary, is_word, member, more, word_after, word_before}
 pub use Rattle.cs_syntax.specs.Node.{tree_of}
 pub use Rattle.cs_syntax.specs.NodeList.{trees_of}
 pub use Rattle.cs_syntax.specs.TreeList.{append}
@@ -21,7 +21,7 @@ pub use Rattle.cs_match.specs.Entered.{entered, if_entered, if_kept, if_previous
 pub use Rattle.cs_match.specs.Expansion.{alternation, expansion, expansions, optional, repeat_expansion, union_of, with_copies}
 pub use Rattle.cs_match.specs.Glushkov.{IsExpanded, accepts, char_step_of, cuts_of, look_around, loop_ends, nullable, position_count, position_count_of, repeats, step, unfinished_before}
 pub use Rattle.cs_match.specs.Lanes.{AreChunks, AreLanes, AreListed, IsChunk, IsCut, IsLane}
-pub use Rattle.cs_match.specs.LazyDfa.{AreFirstRows, accepted_number, most_rows, start_number, until_newline}
+pub use Rattle.cs_match.specs.LazyDfa.{AreFirstRows, most_rows, start_number, until_newline}
 pub use Rattle.cs_match.specs.Lines.{lines, newline, terminated_lines}
 pub use Rattle.cs_match.specs.Listing.{CountsWithin, IsListedTo, ListsLines}
 pub use Rattle.cs_match.specs.LookBehind.{look_behind}

@@ -67,15 +67,11 @@ impl CachedStates {
         let Some(words) = most.checked_mul(count.div_ceil(64)) else {
             return Err(AllocError);
         };
-        let sets = Vec::with_capacity(alloc, words)?;
-        let behinds = Vec::with_capacity(alloc, most)?;
-        let slots = vec![in alloc; 0u16; 2 * most]?;
-        let places = Vec::with_capacity(alloc, most)?;
         Ok(CachedStates {
-            sets,
-            behinds,
-            slots,
-            places,
+            sets: Vec::with_capacity(alloc, words)?,
+            behinds: Vec::with_capacity(alloc, most)?,
+            slots: vec![in alloc; 0u16; 2 * most]?,
+            places: Vec::with_capacity(alloc, most)?,
             most,
             count,
         })

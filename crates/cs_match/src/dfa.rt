@@ -1,7 +1,7 @@
 // Lazy DFA (RE2): subset construction on demand over Glushkov positions (`specs/Glushkov.antt`),
 // with a bounded cache of states that is cleared when it is full.
 ghost use Rattle.std.specs.Prelude.{◌≡◌, ◌≢◌, ◌↔◌, ◌+◌, ◌-◌, ◌<◌, ◌≤◌, ◌*◌, ℕ, Bool, List, ◌∷◌, IfOk, IsTrue, length, drop, slice_index, slice_range, vec_capacity, true, false};
-ghost use Rattle.cs_match.specs.Cited.{HasMatch, AreBytes, words, byte_work, line_work, Decides, next_number, number_after, table_start, unknown, HasRows, TellsLines, HasScanned, FollowsKnown, ListsLine, PassesLines, newline, AreWholeLines, AreLinesBetween, AreListed, position_count, cuts_of, IsBlock, successor, accepts_before, IsDead, until_newline, accepted_number, most_rows, AreFirstRows, start_number, CountsAtMost, StepsWithin, IsKnown, IsTableOf, table_in, HasSlot, HasState, LeadsIn, count_in, state_in};
+ghost use Rattle.cs_match.specs.Cited.{HasMatch, AreBytes, words, byte_work, line_work, Decides, next_number, number_after, table_start, unknown, HasRows, TellsLines, HasScanned, FollowsKnown, ListsLine, PassesLines, newline, AreWholeLines, AreLinesBetween, AreListed, position_count, cuts_of, IsBlock, successor, accepts_before, IsDead, until_newline, most_rows, AreFirstRows, start_number, CountsAtMost, StepsWithin, IsKnown, IsTableOf, table_in, HasSlot, HasState, LeadsIn, count_in, state_in};
 ghost use Rattle.cs_match.specs.declared.state.State.{State};
 
 use crate::byte_classes::ByteClasses;
@@ -66,7 +66,6 @@ pub(crate) struct LazyDfa<'a> {
 }
 
 impl<'a> Model for LazyDfa<'a> {
-    ghost use Rattle.cs_prefilter.specs.CountsAtMost.{CountsAtMost};
     ghost use Rattle.cs_match.specs.ConsistentDfa.{Dfa, dfa_code, IsConsistent};
 
     ghost Value = { Dfa };
@@ -89,18 +88,6 @@ fn most_states(classes: usize, words: usize) -> usize
 {
     let rows = (TRANSITIONS / classes).min(u16::MAX as usize);
     rows.min((MOST_WORDS / words.max(1)).max(LEAST_STATES))
-}
-
-/// The transition over a byte before which a state accepts, for so many classes.
-fn accepted(classes: u16, byte: u8) -> u16
-    requires { classes ≤ 256 }
-    ensures { result ≡ accepted_number classes byte }
-{
-    if byte == b'\n' {
-        Table::FOUND
-    } else {
-        MATCH * classes
-    }
 }
 
 /// Adds the row of a state that stays until the newline.
@@ -275,23 +262,21 @@ impl<'a> LazyDfa<'a> {
             next_number (table_in self.new) (slot * count_in self.old) byte ≡ result }
         ensures work { StepsWithin (byte_work self.old.tree - 2) self.old self.new steps.old steps.new }
     {
-        steps.add(self.states.scratch.positions.len().div_ceil(64));
-        self.states.cached.load(slot, &mut self.states.scratch);
-        if self
-            .states
+        let states = &mut self.states;
+        steps.add(states.scratch.positions.len().div_ceil(64));
+        states.cached.load(slot, &mut states.scratch);
+        let accepts = states
             .scratch
-            .step_over(self.program, &mut self.states.memory, byte, steps)
-        {
-            let next = accepted(self.states.classes.count, byte);
-            self.put(slot, byte, next);
-            return next;
-        }
-        if byte == b'\n' {
-            let start = START * self.states.classes.count;
-            self.put(slot, byte, start);
-            return start;
-        }
-        self.next_number(slot, byte, steps)
+            .step_over(self.program, &mut states.memory, byte, steps);
+        let count = states.classes.count;
+        let next = match (accepts, byte) {
+            (true, b'\n') => Table::FOUND,
+            (true, _) => MATCH * count,
+            (false, b'\n') => START * count,
+            _ => return self.next_number(slot, byte, steps),
+        };
+        self.put(slot, byte, next);
+        next
     }
 
     /// The number of the state under construction, which is cached if it is new: the successor of

@@ -1,6 +1,6 @@
 // Expansion of counted repeats, and of alternations of single bytes to sets (RE2's simplification).
-ghost use Rattle.std.specs.Prelude.{◌≡◌, IfOk, OnOk, None, if◌then◌else◌};
-ghost use Rattle.cs_match.specs.Cited.{rep, tree_of, trees_of, expansion, expansions, with_copies, optional, repeat_expansion, union_of, alternation};
+ghost use Rattle.std.specs.Prelude.{◌≡◌, IfOk, OnOk, if◌then◌else◌};
+ghost use Rattle.cs_match.specs.Cited.{tree_of, trees_of, expansion, expansions, with_copies, optional, repeat_expansion, union_of, alternation};
 
 use cs_syntax::{ByteSet, Node};
 use std::alloc::{AllocError, Global};
@@ -37,13 +37,12 @@ fn expand_repeat(
     let mut parts = Vec::new(alloc);
     match most {
         None => {
-            let last = expand(alloc, node)?;
+            let body = Box::new(alloc, expand(alloc, node)?)?;
             if least == 0 {
-                return in_loop(alloc, last, 0);
+                return Ok(Node::Rep(body, 0, None));
             }
             add_copies(alloc, node, least - 1, false, &mut parts)?;
-            let last = in_loop(alloc, last, 1)?;
-            parts.push(last)?;
+            parts.push(Node::Rep(body, 1, None))?;
             Ok(Node::Cat(parts))
         }
         Some(most) => {
@@ -98,7 +97,7 @@ fn union_of(nodes: &[Node]) -> Option<ByteSet>
 
 /// Adds so many copies of the expansion. Each of them, or nothing, if they are optional.
 #[cycle(expand)]
-#[tactic(auto, using(crate::proofs::CopyLemmas::pushed_copy, cs_syntax::proofs::TreeListLemmas::append_none))]
+#[tactic(auto, using(cs_syntax::proofs::TreeListLemmas::append_none))]
 fn add_copies(
     alloc: Global,
     node: &Node,
@@ -110,28 +109,11 @@ fn add_copies(
         (if are_optional then optional (expansion (tree_of node.now)) else expansion (tree_of node.now))) }
 {
     for k in 0..count {
-        let once = expand(alloc, node)?;
-        let copy = if are_optional {
-            or_nothing(alloc, once)?
-        } else {
-            once
-        };
+        let mut copy = expand(alloc, node)?;
+        if are_optional {
+            copy = Node::Alt(vec![in alloc; copy, Node::Empty]?);
+        }
         parts.push(copy)?;
     }
     Ok(())
-}
-
-fn or_nothing(alloc: Global, node: Node) -> Result<Node, AllocError>
-    ensures { IfOk result (λ n. tree_of n ≡ optional (tree_of node)) }
-{
-    let mut branches = Vec::new(alloc);
-    branches.push(node)?;
-    branches.push(Node::Empty)?;
-    Ok(Node::Alt(branches))
-}
-
-fn in_loop(alloc: Global, node: Node, least: u32) -> Result<Node, AllocError>
-    ensures { IfOk result (λ n. tree_of n ≡ rep (tree_of node) least None) }
-{
-    Ok(Node::Rep(Box::new(alloc, node)?, least, None))
 }

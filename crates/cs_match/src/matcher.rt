@@ -57,14 +57,12 @@ impl<'a> Matcher<'a> {
         ensures states { IfOk result (λ matcher. matcher.states ≡ 1) }
         ensures steps { IfOk result (λ matcher. matcher.steps ≡ 0) }
     {
-        let dfa = LazyDfa::new(alloc, program)?;
-        let lister = Lister {
-            dfa,
-            pacing: Pacing::default(),
-            steps: Steps::new(),
-        };
         Ok(Matcher {
-            lister,
+            lister: Lister {
+                dfa: LazyDfa::new(alloc, program)?,
+                pacing: Pacing::default(),
+                steps: Steps::new(),
+            },
             ends: vec![in alloc; 0usize; LIST]?,
             listed: 0,
         })

@@ -5,14 +5,11 @@ use crate::listing::Candidate;
 
 /// Below this distance between candidates without a match the DFA alone is faster than a prefilter.
 const NEAR: usize = 256;
-
 /// The cost of such candidates in a row that is put down to chance, in bytes scanned in their time.
 const MOST_WASTED: usize = 16 * NEAR;
-
 /// One lane is faster than four if it reads at most one of so many bytes: it jumps over the rest of
 /// a line that is decided.
 const EARLY: usize = 4;
-
 /// The longest backoff, in parts.
 const LONGEST: usize = 64;
 

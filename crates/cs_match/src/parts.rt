@@ -167,10 +167,7 @@ fn alternation_of(alloc: Global, nodes: &[Node]) -> Result<Fragment, AllocError>
         parts.push(part)?;
     }
     match runs_of(alloc, &parts)? {
-        Some(following) => {
-            let sequences = Sequences::new(alloc, following)?;
-            Ok(Fragment::Alternation(sequences))
-        }
+        Some(following) => Ok(Fragment::Alternation(Sequences::new(alloc, following)?)),
         None => Ok(alternation(parts)),
     }
 }

@@ -1,7 +1,7 @@
 // The positions of a tree, and what each does over a byte: one bit each in the masks, which are
 // computed when an input is seen first. All bytes of a class do the same, so each class has one
 // mask, that of its first byte.
-ghost use Rattle.std.specs.Prelude.{◌≡◌, ◌++◌, OnOk, ◌+◌, ◌<◌, IfOk, None, Some, length, slice_index_or};
+ghost use Rattle.std.specs.Prelude.{◌≡◌, ◌++◌, OnOk, ◌+◌, ◌<◌, IfOk, Some, length, slice_index_or};
 ghost use Rattle.cs_match.specs.Cited.{tree_of, position_count, position_list, if_entered, if_previous, if_kept, IsMask, HasRoom, AreMasks, CountsAtMost};
 
 use crate::position_set::PositionSet;
@@ -66,19 +66,6 @@ pub(crate) struct Mask {
 }
 
 impl Mask {
-    /// A mask for this many positions, of no input.
-    fn none(alloc: Global, position_count: usize) -> Result<Mask, AllocError>
-        ensures room { IfOk result (HasRoom position_count) }
-        ensures none { IfOk result (λ mask. mask.input ≡ None) }
-    {
-        Ok(Mask {
-            input: None,
-            entered: PositionSet::none(alloc, position_count)?,
-            previous: PositionSet::none(alloc, position_count)?,
-            kept: PositionSet::none(alloc, position_count)?,
-        })
-    }
-
     /// Computes the mask of the input.
     fn fill(&mut self, positions: &[Position], input: Input, steps: &mut Steps)
         requires { HasRoom (length positions.now) self.old }
@@ -117,8 +104,12 @@ impl Masks {
         let positions = program.positions().len();
         let mut slots = Vec::with_capacity(alloc, count)?;
         for slot in 0..count {
-            let mask = Mask::none(alloc, positions)?;
-            slots.push(mask)?;
+            slots.push(Mask {
+                input: None,
+                entered: PositionSet::none(alloc, positions)?,
+                previous: PositionSet::none(alloc, positions)?,
+                kept: PositionSet::none(alloc, positions)?,
+            })?;
         }
         Ok(Masks { slots })
     }

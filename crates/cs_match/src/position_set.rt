@@ -28,14 +28,11 @@ impl Model for PositionSet {
 
 impl PositionSet {
     /// The empty set for this many positions.
-    pub(crate) fn none(alloc: Global, position_count: usize) -> Result<PositionSet, AllocError>
-        ensures { IfOk result (λ positions. positions ≡ replicate position_count false) }
+    pub(crate) fn none(alloc: Global, count: usize) -> Result<PositionSet, AllocError>
+        ensures { IfOk result (λ positions. positions ≡ replicate count false) }
     {
-        let words = vec![in alloc; 0u64; position_count.div_ceil(64)]?;
-        Ok(PositionSet {
-            words,
-            count: position_count,
-        })
+        let words = vec![in alloc; 0u64; count.div_ceil(64)]?;
+        Ok(PositionSet { words, count })
     }
 
     /// The set of the positions whose flag is set.

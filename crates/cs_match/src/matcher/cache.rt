@@ -36,15 +36,9 @@ impl<'a> Matcher<'a> {
         requires cache { IsCacheOf program.now cache }
         ensures tree { result.tree ≡ program.now }
     {
-        let dfa = LazyDfa {
-            program,
-            states: cache.states,
-        };
-        let lister = Lister {
-            dfa,
-            pacing: cache.pacing,
-            steps: cache.steps,
-        };
+        let (states, pacing, steps) = (cache.states, cache.pacing, cache.steps);
+        let dfa = LazyDfa { program, states };
+        let lister = Lister { dfa, pacing, steps };
         Matcher {
             lister,
             ends: cache.ends,
@@ -56,13 +50,11 @@ impl<'a> Matcher<'a> {
     pub fn into_cache(self) -> Cache
         ensures { IsCacheOf self.entry.tree result }
     {
-        let Matcher { lister, ends, .. } = self;
-        let Lister { dfa, pacing, steps } = lister;
-        let LazyDfa { program: _, states } = dfa;
+        let Lister { dfa, pacing, steps } = self.lister;
         Cache {
-            states,
+            states: dfa.states,
             pacing,
-            ends,
+            ends: self.ends,
             steps,
         }
     }

@@ -39,19 +39,19 @@ alternation_of-loop-node-preserved t c =
       total = sym (position_count_append (shapes_of c.push.new.self.items) ts) ∙ sym same.positions;
     }
 
-pub alternation_of-returns-in_ok-sequences-in-Some-clause-shape : goal.alternation_of-returns-in_ok-sequences-in-Some-clause-shape
-alternation_of-returns-in_ok-sequences-in-Some-clause-shape t c =
+pub alternation_of-returns-in_ok-new-in-Some-clause-shape : goal.alternation_of-returns-in_ok-new-in-Some-clause-shape
+alternation_of-returns-in_ok-new-in-Some-clause-shape t c =
     let ss = shapes_of c.loop-node.parts.items in
     let all = trees_of c.args.nodes.now in
     let ns = c.in-Some.following.items in
     let known : shapes_of c.deref.result.now ≡ runs ns = rw c.in-Some.is at c.in_ok-following.ensures in
-    let shapes : ss ≡ runs c.in_ok-sequences-in-Some.sequences = ap shapes_of (sym c.deref.ensures.value) ∙ known
-    ∙ ap runs (sym c.in_ok-sequences-in-Some.ensures) in
+    let shapes : ss ≡ runs c.in_ok-new-in-Some.field-0 = ap shapes_of (sym c.deref.ensures.value) ∙ known
+    ∙ ap runs (sym c.in_ok-new-in-Some.ensures) in
     let none_left : alt (append ss (trees_of (drop c.loop-node.node-index c.args.nodes.now))) ≡ alt ss =
     ap (λ (rest : List Node). alt (append ss (trees_of rest)))
     (drop_of_length-le c.args.nodes.now {i = c.loop-node.node-index} (omega arith)) ∙ ap alt (append_none ss) in
     subst (λ (u : Tree). HaveSameShape (alt all) u)
-    (none_left ∙ ap alt shapes ∙ sym (shape_of-Alternation c.in_ok-sequences-in-Some.sequences))
+    (none_left ∙ ap alt shapes ∙ sym (shape_of-Alternation c.in_ok-new-in-Some.field-0))
     c.loop-node.invariant.same
 
 pub alternation_of-returns-in-None-clause-shape : goal.alternation_of-returns-in-None-clause-shape
@@ -62,12 +62,12 @@ alternation_of-returns-in-None-clause-shape t c =
     (drop_of_length-le c.args.nodes.now {i = c.loop-node.node-index} (omega arith)) ∙ ap alt (append_none ss) in
     shape_trans _ _ _ (rw none_left at c.loop-node.invariant.same) c.alternation.ensures.shape
 
-pub alternation_of-returns-in_ok-sequences-in-Some-clause-size : goal.alternation_of-returns-in_ok-sequences-in-Some-clause-size
-alternation_of-returns-in_ok-sequences-in-Some-clause-size t c =
-    let ns = c.in_ok-sequences-in-Some.sequences in
+pub alternation_of-returns-in_ok-new-in-Some-clause-size : goal.alternation_of-returns-in_ok-new-in-Some-clause-size
+alternation_of-returns-in_ok-new-in-Some-clause-size t c =
+    let ns = c.in_ok-new-in-Some.field-0 in
     let known : shapes_of c.deref.result.now ≡ runs c.in-Some.following.items = rw c.in-Some.is at c.in_ok-following.ensures in
     let shapes : shapes_of c.loop-node.parts.items ≡ runs ns = ap shapes_of (sym c.deref.ensures.value) ∙ known
-    ∙ ap runs (sym c.in_ok-sequences-in-Some.ensures) in
+    ∙ ap runs (sym c.in_ok-new-in-Some.ensures) in
     omega (
       arith,
       size_of-Alternation ns,

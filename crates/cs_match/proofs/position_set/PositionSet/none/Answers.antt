@@ -7,4 +7,4 @@ invariant_of-result c = rw (c.in_ok-words.ensures.items_if_clones_equal (λ y e.
     (IsPositionSet-zeros _ _ (omega (arith, c.div_ceil.ensures)))
 
 pub returns : goal.returns
-returns c = rw (c.in_ok-words.ensures.items_if_clones_equal (λ y e. e)) (positions_of-zeros c.div_ceil.result c.args.position_count)
+returns c = rw (c.in_ok-words.ensures.items_if_clones_equal (λ y e. e)) (positions_of-zeros c.div_ceil.result c.args.count)

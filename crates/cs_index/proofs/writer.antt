@@ -3,6 +3,7 @@ pub mod BuilderAdd
 pub mod CodedStrings
 pub mod EntriesOfLists
 pub mod IdAdded
+pub mod LastIds
 pub mod LeastLength
 pub mod ListsBelow
 pub mod SectionsSteps

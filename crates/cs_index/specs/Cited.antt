@@ -15,7 +15,7 @@ pub use Rattle.cs_index.specs.Built.{IsAlwaysLonger, IsBuilt, IsFull, IsOutOfOrd
 pub use Rattle.cs_index.specs.CandidatePages.{AreOnPage, candidates_from}
 pub use Rattle.cs_index.specs.Candidates.{AreCandidates, candidates_of}
 pub use Rattle.cs_index.specs.Decoding.{DecodesAs}
-pub use Rattle.cs_index.specs.Encoding.{Entry, IsString, ListEntry, PostingList, encoding, encoding_of, entry_bytes, four_bytes, layout, list_entries, name_offsets, names_of, posting_list_bytes, postings_of, sections_of, stream_of, strings_section, three_bytes, trailer_magic, varint, varint_within, with_nul}
+pub use Rattle.cs_index.specs.Encoding.{Entry, IsString, ListEntry, PostingList, deltas_from, encoding, encoding_of, entry_bytes, four_bytes, layout, list_entries, name_offsets, names_of, posting_list_bytes, postings_of, sections_of, stream_of, strings_section, three_bytes, trailer_magic, varint, varint_within, with_nul}
 pub use Rattle.cs_index.specs.Failing.{Fails}
 pub use Rattle.cs_index.specs.Form.{Exist, Gathers, Grows, IsForm, IsNumberOf, IsRequired, IsWithin, joined, matched, members_match, node_matches, number_matches, numbers, queries_match}
 pub use Rattle.cs_index.specs.Gathering.{lists_below, lists_from}
@@ -24,6 +24,7 @@ pub use Rattle.cs_index.specs.Indexable.{IsIndexable}
 pub use Rattle.cs_index.specs.LeastLength.{least_length}
 pub use Rattle.cs_index.specs.ListDecoding.{IsStep}
 pub use Rattle.cs_index.specs.ListReading.{AreBytesOf, HasList, known_ids, list_in}
+pub use Rattle.cs_index.specs.MappedIds.{new_ids_of}
 pub use Rattle.cs_index.specs.MaxNames.{max_names}
 pub use Rattle.cs_index.specs.NameReading.{HasName, IsName, ReadsNames}
 pub use Rattle.cs_index.specs.Nuls.{AreTextsTo, IsPairAt, is_nul}

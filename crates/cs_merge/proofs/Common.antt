@@ -15,7 +15,7 @@ pub use Rattle.cs_index.specs.Written.{AllBelow, Written, entries_written, ids_o
 pub use Rattle.cs_index.specs.declared.fault.IndexFault.{IndexFault}
 pub use Rattle.cs_merge.specs.Content.{DecodesAsContent, EachFile, HasContent, IsContent, LieUnder, Opens}
 pub use Rattle.cs_merge.specs.IdMap.{AreByRank, AreDisjoint, AreDropped, AreIdMaps, AreMapped, AreMappedLists, AreMergedNames, AreNamesSoFar, AreRunEnds, AreScattered, IsIncreasing, IsInjective, IsMapped, IsMergingNames, IsOfEither, IsRun, NewIds, StayBelow, kept, new, new_id, new_ids_of}
-pub use Rattle.cs_merge.specs.ListMerge.{AreDistinctIds, AreLeft, AreMergedLists, BeginFrom, EndsWith, IsFollowed, IsMappedPostings, IsReadAhead, IsBelow, IsMergedList, IsRunOf, IsWrittenBelow, list_ids, list_trigram, lower_of, position_after, without_number}
+pub use Rattle.cs_merge.specs.ListMerge.{AreDistinctIds, AreLeft, AreMergedLists, BeginFrom, IsMappedPostings, IsBelow, IsMergedList, IsRunOf, IsWrittenBelow, list_ids, list_trigram, lower_of, position_after, without_number}
 pub use Rattle.cs_merge.specs.OldLists.{AreAllMerged, AreRead, IsMergingLists, IsStored, known_parts, old_ids}
 pub use Rattle.cs_merge.specs.ListsFault.{AreTooLong, IsListsFault, are_whole_from, rest_fault}
 pub use Rattle.cs_merge.specs.Merge.{merge_files, merge_paths}

@@ -11,7 +11,7 @@ use Rattle.std.proofs.Math.Bool.{or-false}
 
 -- ---- new ids of both lists
 
-pub none_before : (count next id : ℕ) (ids : List ℕ) → AscendWithin count next ids → id < next → has ids id ≡ false
+none_before : (count next id : ℕ) (ids : List ℕ) → AscendWithin count next ids → id < next → has ids id ≡ false
 none_before count next id [] up h = refl
 none_before count next id (other ∷ ids) up h =
     let from : next ≤ other = up.0 in

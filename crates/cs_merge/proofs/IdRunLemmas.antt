@@ -1,6 +1,6 @@
 -- Runs of ids.
 use Rattle.std.proofs.Common.{◌≡◌, ℕ, ◌+◌, ◌-◌, ◌<◌, ◌≤◌, cond, min, List, [], ◌∷◌, ◌++◌, length, refl, sym, ap, subst, ◌∙◌, inl, inr, Option, Some, None, arith, slice_get, option_map}
-use Rattle.cs_merge.proofs.Common.{cases_lt, eq-eqb, cons_option, AllByRecursion, Ids, ids_onward, NewIds, new_id, new_ids_of, AreRunEnds, IsRun, without_number, IsFollowed, IsMappedPostings, IsRunOf, all_weaker, none-some}
+use Rattle.cs_merge.proofs.Common.{cases_lt, eq-eqb, cons_option, AllByRecursion, Ids, ids_onward, NewIds, new_id, new_ids_of, AreRunEnds, IsRun, without_number, IsMappedPostings, IsRunOf, all_weaker, none-some}
 use Rattle.cs_merge.proofs.IdMapLemmas.{get_push}
 
 -- ---- distances within a run
@@ -52,24 +52,18 @@ module _ (new_ids : NewIds) where
 
   -- ---- the mapped ids of a run
 
-  -- ids that are kept, and shifted by one distance
-  pub mapped_kept : (last new : ℕ) (run rest : List ℕ) →
-      AllByRecursion (λ id. new_id new_ids (last + 1 + id) ≡ Some (new + 1 + id)) run →
-      new_ids_of new_ids (ids_onward (last + 1) run ++ rest) ≡ ids_onward (new + 1) run ++ new_ids_of new_ids rest
-  mapped_kept last new [] rest all = refl
-  mapped_kept last new (id ∷ run) rest all =
-      ap (λ o. cons_option o (new_ids_of new_ids (ids_onward (last + 1) run ++ rest))) all.0
-      ∙ ap (λ ids. (new + 1 + id) ∷ ids) (mapped_kept last new run rest all.1)
-
-  pub run_kept : (last end new : ℕ) (run : List ℕ) → new_id new_ids last ≡ Some new → IsRun new_ids last end →
+  -- a run of ids that are kept
+  pub mapped_run : (last end new : ℕ) (run rest : List ℕ) → new_id new_ids last ≡ Some new → IsRun new_ids last end →
       AllByRecursion (λ id. last + 1 + id < end) run →
-      AllByRecursion (λ id. new_id new_ids (last + 1 + id) ≡ Some (new + 1 + id)) run
-  run_kept last end new run is together all =
-      all_weaker (λ id. last + 1 + id < end) (λ id. new_id new_ids (last + 1 + id) ≡ Some (new + 1 + id))
-      (λ id below.
+      new_ids_of new_ids (ids_onward (last + 1) run ++ rest) ≡ ids_onward (new + 1) run ++ new_ids_of new_ids rest
+  mapped_run last end new [] rest is together all = refl
+  mapped_run last end new (id ∷ run) rest is together all =
+      let below : last + 1 + id < end = all.0 in
       let at : new + (last + 1 + id - last) ≡ new + 1 + id = omega arith in
-      together (last + 1 + id) (omega arith) below ∙ ap (option_map (λ n. n + (last + 1 + id - last))) is ∙ ap Some at)
-      run all
+      ap (λ o. cons_option o (new_ids_of new_ids (ids_onward (last + 1) run ++ rest)))
+      (together (last + 1 + id) (omega arith) below ∙ ap (option_map (λ n. n + (last + 1 + id - last))) is
+      ∙ ap Some at)
+      ∙ ap (λ ids. (new + 1 + id) ∷ ids) (mapped_run last end new run rest is together all.1)
 
   -- a run of dropped ids
   pub mapped_none : (last end : ℕ) (run rest : List ℕ) → new_id new_ids last ≡ None → IsRun new_ids last end →
@@ -84,8 +78,8 @@ module _ (new_ids : NewIds) where
 
 -- ---- the run of the first id
 
-module _ (new_ids : NewIds) (first : Option ℕ) (last id stop : ℕ) (rest ahead : Ids)
-    (is : IsMappedPostings new_ids first last rest stop ahead)
+module _ (new_ids : NewIds) (first : Option ℕ) (last id : ℕ) (rest : Ids)
+    (is : IsMappedPostings new_ids first last rest)
     (there : slice_get (cons_option first (new_ids_of new_ids rest.ids)) 0 ≡ Some id) where
   pub has_first : first ≡ Some id
   has_first = by_first first refl
@@ -94,25 +88,21 @@ module _ (new_ids : NewIds) (first : Option ℕ) (last id stop : ℕ) (rest ahea
       by_first None e = absurd (none-some id (sym (λ i. slice_get (cons_option (e i) (new_ids_of new_ids ((is.end e).0 i))) 0) ∙ there))
       by_first (Some n) e = e ∙ sym (ap (λ o. slice_get (cons_option o (new_ids_of new_ids rest.ids)) 0) e) ∙ there
 
-  pub still_mapped : (at : ℕ) (left behind : Ids) → IsFollowed new_ids first last left.ids at behind.ids →
-      IsMappedPostings new_ids first last left at behind
-  still_mapped at left behind followed = record {
-    first_is = is.first_is;
-    end = λ e. absurd (none-some id (sym e ∙ has_first));
-    followed = followed;
-  }
+  pub still_mapped : (left : Ids) → IsMappedPostings new_ids first last left
+  still_mapped left = record { first_is = is.first_is; end = λ e. absurd (none-some id (sym e ∙ has_first)) }
 
   pub is_run : (limit : Option ℕ) (end most : ℕ) (run left : List ℕ) → rest.ids ≡ ids_onward (last + 1) run ++ left →
-      AllByRecursion (λ other. new_id new_ids (last + 1 + other) ≡ Some (id + 1 + other)) run →
+      IsRun new_ids last end →
       AllByRecursion (λ other. last + 1 + other < min end most) run → ((least : ℕ) → limit ≡ Some least → most ≤ last + (least - id)) →
       IsRunOf id limit run (cons_option first (new_ids_of new_ids rest.ids)) (cons_option first (new_ids_of new_ids left))
-  is_run limit end most run left ids kept all short =
+  is_run limit end most run left ids together all short =
       record {
         ids_are =
             ap (λ o. without_number id (cons_option o (new_ids_of new_ids rest.ids))) has_first
             ∙ ap (λ b. cond b (new_ids_of new_ids rest.ids) (id ∷ new_ids_of new_ids rest.ids)) (eq-eqb id id refl)
             ∙ ap (new_ids_of new_ids) ids
-            ∙ mapped_kept new_ids last id run left kept
+            ∙ mapped_run new_ids last end id run left (is.first_is id has_first) together
+            (all_weaker (λ other. last + 1 + other < min end most) (λ other. last + 1 + other < end) (λ n h. omega (arith, h)) run all)
             ∙ ap (λ ids. ids_onward (id + 1) run ++ ids)
             (sym (ap (λ b. cond b (new_ids_of new_ids left) (id ∷ new_ids_of new_ids left)) (eq-eqb id id refl))
             ∙ sym (ap (λ o. without_number id (cons_option o (new_ids_of new_ids left))) has_first));

@@ -11,7 +11,6 @@ mod CoverLemmas
 mod Examples
 mod FileOrderLemmas
 mod IdRunLemmas
-mod ReadAheadLemmas
 mod MergeResultLemmas
 mod NameStepLemmas
 mod NextListLemmas

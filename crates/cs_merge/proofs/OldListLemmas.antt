@@ -53,7 +53,7 @@ with_postings tables bytes = record { paths = tables.paths; names = tables.names
 abbrev bytes_from : TableParts → BytesAt → ListEntry → List ℕ
 bytes_from source buffer e = drop (source.starts.postings + e.offset - buffer.at) buffer.bytes
 
-pub entry_rises : (source : TableParts) (buffer : BytesAt) (e : ListEntry) →
+entry_rises : (source : TableParts) (buffer : BytesAt) (e : ListEntry) →
     AscendWithin (length source.names) 0 (known_ids source buffer e).ids
 entry_rises source buffer e = list_rises (with_postings source (bytes_from source buffer e)) (at_start e)
 

@@ -1,5 +1,5 @@
 -- Ids that are appended to the list that was begun last, up to a limit.
-use Rattle.std.proofs.Common.{◌≡◌, ◌≢◌, ℕ, ◌+◌, ◌<◌, ◌≤◌, Bool, true, false, cond, ◌||◌, eqb, ltb, List, [], ◌∷◌, ◌++◌, length, refl, sym, ap, subst, ◌∙◌, inl, inr, Option, Some, None, arith, slice_get, append_assoc, length-append}
+use Rattle.std.proofs.Common.{◌≡◌, ◌≢◌, ℕ, zero, suc, take, ◌+◌, ◌<◌, ◌≤◌, Bool, true, false, cond, ◌||◌, eqb, ltb, List, [], ◌∷◌, ◌++◌, length, refl, sym, ap, subst, ◌∙◌, inl, inr, Option, Some, None, arith, slice_get, append_assoc, length-append}
 use Rattle.cs_merge.proofs.Common.{cases_Bool, eq-eqb, ltb-false, same_Some, append-nil, AllByRecursion, option_map_or, PostingList, has, ids_of, with_id, Written, AllBelow, last_ids, with_written_id, with_last_id, with_last_ids, next_after, AscendWithin, ids_onward, list_of, lower_of, without_number, BeginFrom, IsBelow, IsRunOf, IsMergedList, IsWrittenBelow}
 use Rattle.cs_merge.proofs.IdMergeLemmas.{first_rises, given_older, has_both, next_after_push, rise_ends, with_more}
 use Rattle.cs_merge.proofs.TrigramSetLemmas.{ids_of_more}
@@ -65,6 +65,11 @@ some_trigram None h = absurd (h refl)
 some_trigram (Some g) h = (g, refl)
 
 -- ---- ids below a limit
+
+pub rise_taken : (count next some : ℕ) (ids : List ℕ) → AscendWithin count next ids → AscendWithin count next (take some ids)
+rise_taken count next zero ids up = tt
+rise_taken count next (suc some) [] up = tt
+rise_taken count next (suc some) (id ∷ ids) up = (up.0, up.1, rise_taken count (id + 1) some ids up.2)
 
 pub none_written : (limit : Option ℕ) (now : Written) (ids : List ℕ) → IsWrittenBelow limit now now ids ids
 none_written limit now ids = record { given = []; ids_are = refl; now_is = refl; below = tt }

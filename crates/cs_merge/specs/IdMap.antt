@@ -7,18 +7,7 @@ use Rattle.cs_index.specs.Written.{Written}
 use Rattle.cs_merge.specs.SortedNames.{SortedNames, id_of_rank, sorted_names}
 use Rattle.cs_index.specs.Encoding.{PostingList}
 use Rattle.cs_index.specs.PostingLists.{Ids, set_at}
-
--- the new id of each old id from 0 on; a dropped file has none
-abbrev pub NewIds : Type 0
-NewIds = List (Option ℕ)
-
--- the new id of an id
-abbrev pub new_id : NewIds → ℕ → Option ℕ
-new_id new_ids id = option_and_then (λ new. new) (slice_get new_ids id)
-
--- the new ids of a list, without those of dropped files
-abbrev pub new_ids_of : NewIds → List ℕ → List ℕ
-new_ids_of new_ids ids = filter_map (new_id new_ids) ids
+pub use Rattle.cs_index.specs.MappedIds.{NewIds, new_id, new_ids_of}
 
 -- the same for a list that is being read
 abbrev pub new_ids_read : NewIds → Ids → Ids

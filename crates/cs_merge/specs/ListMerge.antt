@@ -1,9 +1,9 @@
 -- The merge of posting lists, by trigram and then by id.
-use Rattle.std.specs.Prelude.{◌≡◌, ℕ, ◌+◌, ◌-◌, ◌<◌, ◌≤◌, Bool, true, nat_eq, nat_lt, if◌then◌else◌, ◌||◌, List, [], ◌∷◌, ◌++◌, length, take, Option, Some, None, slice_get, option_map, Result, MatchResult}
+use Rattle.std.specs.Prelude.{◌≡◌, ℕ, ◌+◌, ◌<◌, ◌≤◌, Bool, true, nat_eq, nat_lt, if◌then◌else◌, ◌||◌, List, [], ◌∷◌, ◌++◌, length, take, Option, Some, None, slice_get, option_map, Result, MatchResult}
 use Rattle.std.specs.List.{list_all, AllByRecursion}
 use Rattle.std.specs.Option.{option_map_or}
 use Rattle.cs_trigram.specs.Trigram.{has}
-use Rattle.cs_index.specs.AscendingIds.{max_ids, next_after, AscendWithin, BeginsFrom, ids_onward}
+use Rattle.cs_index.specs.AscendingIds.{next_after, AscendWithin, BeginsFrom, ids_onward}
 use Rattle.cs_index.specs.Encoding.{ListEntry, PostingList}
 use Rattle.cs_index.specs.Written.{Written, AllBelow, with_last_ids}
 use Rattle.cs_index.specs.OpenedParts.{Parts, ids_read, lists_in}
@@ -33,36 +33,10 @@ ids_after id read = record { ids = without_number id read.ids; whole = read.whol
 abbrev pub new_of : Option (ℕ × ℕ) → Option ℕ
 new_of next = option_map (λ (kept : ℕ × ℕ). kept.1) next
 
--- The list was read up to `stop`. The ids between `last` and the stop are shifted as `last` is to `new`, and those after
--- the stop are left.
-pub record IsReadAhead (new_ids : NewIds) (last new stop : ℕ) (ids left : List ℕ) : Type 0 where
-  pub rise : AscendWithin max_ids 0 left
-  pub shifted : (id : ℕ) → has ids id ≡ true → last < id → id < stop → new_id new_ids id ≡ Some (new + (id - last))
-  pub later : (id : ℕ) → has ids id ≡ true → stop < id → has left id ≡ true
-
--- The same of the ids after `last`, whose new id is the first one, while the list is read once more, ahead.
-pub record IsFollowed (new_ids : NewIds) (first : Option ℕ) (last : ℕ) (rest : List ℕ) (stop : ℕ) (ahead : List ℕ) : Type 0 where
-  pub rise : AscendWithin max_ids (last + 1) rest
-  pub read : (new : ℕ) → first ≡ Some new → IsReadAhead new_ids last new stop rest ahead
-
 -- The first new id is that of the id read last; if there is none, the list was read to its end.
-pub record IsMappedPostings (new_ids : NewIds) (first : Option ℕ) (last : ℕ) (rest : Ids) (stop : ℕ) (ahead : Ids) : Type 0 where
+pub record IsMappedPostings (new_ids : NewIds) (first : Option ℕ) (last : ℕ) (rest : Ids) : Type 0 where
   pub first_is : (new : ℕ) → first ≡ Some new → new_id new_ids last ≡ Some new
   pub end : first ≡ None → (rest.ids ≡ []) × (rest.whole ≡ true)
-  pub followed : IsFollowed new_ids first last rest.ids stop ahead.ids
-
--- ids between `last` and the end were skipped
-abbrev pub IsSkipped : ℕ → ℕ → List ℕ → List ℕ → Type 0
-IsSkipped last end ids left = (run : List ℕ) × (ids ≡ ids_onward (last + 1) run ++ left) ×
-    AllByRecursion (λ id. last + 1 + id < end) run
-
--- the list ends with the ids that are left
-abbrev pub EndsIn : List ℕ → List ℕ → Type 0
-EndsIn ids left = (passed : List ℕ) × (ids ≡ passed ++ left)
-
--- the list ends with the id and those that are left
-abbrev pub EndsWith : List ℕ → ℕ → List ℕ → Type 0
-EndsWith ids id left = EndsIn ids (id ∷ left)
 
 -- A run of ids, relative to `id`, follows `id` in the list. Its ids are below the limit, if there is one.
 pub record IsRunOf (id : ℕ) (limit : Option ℕ) (run ids rest : List ℕ) : Type 0 where

@@ -63,6 +63,13 @@ impl IdMap {
         Ok(IdMap { new_ids })
     }
 
+    /// The new id of each id.
+    pub(crate) fn as_slice(&self) -> &[Option<u32>]
+        ensures { result.now ≡ self.now }
+    {
+        &self.new_ids
+    }
+
     /// The new id of an id, if its file is kept.
     pub(crate) fn new_id(&self, id: u32) -> Option<u32>
         ensures { result ≡ new_id' self.now id }
@@ -84,7 +91,7 @@ pub(crate) struct IdRuns<'a> {
     new_ids: &'a IdMap,
     ends: Vec<u32>,
     is_increasing: bool,
-    mean_shift: u32,
+    count: u32,
 }
 
 impl<'a> Model for IdRuns<'a> {
@@ -105,9 +112,11 @@ impl<'a> IdRuns<'a> {
     {
         let mut ends = Vec::new(alloc);
         let mut end = 0;
+        let mut count = 0u32;
         'ids: for id in 0..new_ids.len() {
             if id >= end {
                 end = end_from(new_ids, id);
+                count = count.saturating_add(1);
             }
             ends.push(end)?;
         }
@@ -116,7 +125,7 @@ impl<'a> IdRuns<'a> {
             new_ids,
             ends,
             is_increasing,
-            mean_shift: mean_shift(new_ids),
+            count,
         })
     }
 
@@ -127,10 +136,16 @@ impl<'a> IdRuns<'a> {
         self.is_increasing
     }
 
-    /// The mean number of ids from one that is shifted by another distance than those before to the
-    /// next such id. It says only what is quicker.
-    pub(crate) fn mean_shift(&self) -> u32 {
-        self.mean_shift
+    /// The number of runs. It says only what is quicker.
+    pub(crate) fn count(&self) -> u32 {
+        self.count
+    }
+
+    /// The new id of each id.
+    pub(crate) fn new_ids(&self) -> &[Option<u32>]
+        ensures { result.now ≡ self.now }
+    {
+        self.new_ids.as_slice()
     }
 
     /// The new id of an id, if its file is kept.
@@ -162,24 +177,6 @@ fn end_from(new_ids: &IdMap, id: u32) -> u32
         end += 1;
     }
     end
-}
-
-/// The number of ids for each distance by which ids are shifted one after another.
-fn mean_shift(new_ids: &IdMap) -> u32
-    requires { length new_ids.now < 2 ^ 32 }
-{
-    let mut shifts = 0u32;
-    let mut last = None;
-    'ids: for id in 0..new_ids.len() {
-        if let Some(new) = new_ids.new_id(id) {
-            let distance = Some(new.wrapping_sub(id));
-            if distance != last {
-                shifts = shifts.saturating_add(1);
-                last = distance;
-            }
-        }
-    }
-    new_ids.len() / shifts.max(1)
 }
 
 /// Whether ascending ids have ascending new ids.

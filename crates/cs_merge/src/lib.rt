@@ -14,19 +14,18 @@
 //!   sorted paths.
 //! - *Posting lists* (`merging_trigrams`, and `merging_lists` for the lists of one trigram). They
 //!   are merged in ascending order of trigrams, and a list without ids is not written. A *run* is a
-//!   range of ids that the map shifts by one distance or drops as a whole (`id_runs`, Go's
-//!   `idrange`). The first id of a run is encoded again, and the others are copied as they are
-//!   encoded, up to the first id of the other list (`mapped_postings`). Changes that are scattered
-//!   over many names make the runs short, and a copy costs as much as some eight ids. So a run is
-//!   copied only if it is long for the distance of the last two ids. Otherwise the list is read
-//!   once more, ahead, up to its next id that is dropped or shifted by another distance, and the
-//!   ids before that one are copied: dropped ids that the list does not have end no copy. If the
-//!   distance changes often, ids are written one by one. Dropped runs are skipped without decoding.
-//!   The trigram set of a name is never built. A list is read to its end even if all of its ids are
-//!   dropped, so that damage is always found. Once the written lists have more bytes than an index
-//!   may have (`Sections::list_bytes`), the others are only read for damage.
-//! - *Other orders.* If the new ids of an index are not in the order of its old ones, the runs of
-//!   both lists are sorted by their first new ids, and then copied.
+//!   range of ids that the map shifts by one distance or drops as a whole (`id_map`, Go's
+//!   `idrange`). If the runs of a merge are long, the first id of a run is encoded again, and the
+//!   others are copied as they are encoded, up to the first id of the other list
+//!   (`mapped_postings`). A copy costs as much as some eight ids. So a run is copied only if it is
+//!   long for the distance of the last two ids. Dropped runs are skipped without decoding. Changes
+//!   that are scattered over many names make the runs short. Then the new ids of both lists are
+//!   read into memory, and written from there (`write_both`). The trigram set of a name is never
+//!   built. A list is read to its end even if all of its ids are dropped, so that damage is always
+//!   found. Once the written lists have more bytes than an index may have (`Sections::list_bytes`),
+//!   the others are only read for damage.
+//! - *Other orders.* If the new ids of an index are not in the order of its old ones, the new ids
+//!   of both lists are read into memory and sorted.
 //! - *Replacing* (`replacing`). If the newer paths cover all paths and names of the old index
 //!   (`is_replaced`), the merge is the newer index. A caller that has its bytes needs no merge, and
 //!   reads the old lists only for damage (`is_whole_stored`), as `cindex` does.

@@ -1,17 +1,22 @@
 // The merge of the posting lists of one trigram: a two-way merge by id that copies long runs.
-ghost use Rattle.std.specs.Prelude.{◌≡◌, ◌≢◌, ◌⊎◌, ◌<◌, ◌^◌, ◌&&◌, ◌++◌, [], ◌∷◌, true, false, Some, None, length, slice_get, IfErr, IfOk, OnOk};
-ghost use Rattle.cs_merge.specs.Cited.{closing_trigram, last_ids, AllBelow, IsListFault, next_after, AscendWithin, IsIncreasing, lower_of, AreDistinctIds, IsWrittenBelow, BeginFrom, IsBelow, IsListAnswer, IsMergedList};
+ghost use Rattle.std.specs.Prelude.{◌≡◌, ◌≢◌, ◌⊎◌, ◌<◌, ◌^◌, ◌&&◌, ◌++◌, ◌≤◌, [], ◌∷◌, true, false, Some, None, drop, length, take, slice_get, IfErr, IfOk, OnOk};
+ghost use Rattle.std.specs.List.{AllByRecursion};
+ghost use Rattle.cs_merge.specs.Cited.{closing_trigram, last_ids, AllBelow, IsListFault, next_after, AscendWithin, IsIncreasing, lower_of, AreDistinctIds, IsWrittenBelow, BeginFrom, IsBelow, IsListAnswer, IsMergedList, without_number};
 
 use crate::id_map::{IdMaps, IdRuns};
 use crate::mapped_postings::MappedPostings;
 use cs_index::{IndexFault, Sections};
 use std::alloc::{AllocError, Global};
 
-/// The id maps of both indexes, with their runs.
+/// Runs are long if they have this many ids in the mean. Shorter ones are quicker id by id.
+const LONG: u32 = 64;
+
+/// The id maps of both indexes, with their runs, and whether these are long.
 #[derive(Drop)]
 pub(crate) struct BothRuns<'a> {
     pub(crate) older: IdRuns<'a>,
     pub(crate) newer: IdRuns<'a>,
+    are_long: bool,
 }
 
 impl<'a> BothRuns<'a> {
@@ -24,7 +29,21 @@ impl<'a> BothRuns<'a> {
     {
         let older = IdRuns::new(alloc, &ids.older)?;
         let newer = IdRuns::new(alloc, &ids.newer)?;
-        Ok(BothRuns { older, newer })
+        let runs = older.count().saturating_add(newer.count());
+        let ids = ids.older.len().saturating_add(ids.newer.len());
+        Ok(BothRuns {
+            older,
+            newer,
+            are_long: ids / LONG >= runs,
+        })
+    }
+
+    /// Whether both maps are increasing: the new ids of ascending ids ascend.
+    fn are_increasing(&self) -> bool
+        ensures older { result ≡ true → IsIncreasing self.now.older }
+        ensures newer { result ≡ true → IsIncreasing self.now.newer }
+    {
+        self.older.is_increasing() && self.newer.is_increasing()
     }
 }
 
@@ -35,8 +54,8 @@ pub(crate) struct BothLists<'a, 'b> {
     pub(crate) newer: MappedPostings<'a, 'b>,
 }
 
-/// Writes the merged list of one trigram. If a map is not increasing, the new ids of both lists are
-/// sorted.
+/// Writes the merged list of one trigram. If the runs are short, the new ids of both lists are read
+/// first. If a map is not increasing, they are sorted.
 pub(crate) fn merge_list(
     alloc: Global,
     sections: &mut Sections,
@@ -56,46 +75,98 @@ pub(crate) fn merge_list(
     ensures fault { IsListAnswer (lists.entry.older.whole && lists.entry.newer.whole) result }
 {
     // If both maps are increasing, the new ids of each list ascend.
-    if runs.older.is_increasing() && runs.newer.is_increasing() {
+    if runs.are_increasing() && runs.are_long {
         return merge_ascending(sections, trigram, lists);
     }
-    let mut ids = Vec::new(alloc);
-    gather(&mut ids, lists.older)?;
-    gather(&mut ids, lists.newer)?;
-    // Most of the ids ascend already, which a stable sort makes use of.
-    ids.sort()?;
-    write_ids(sections, trigram, &ids)?;
-    Ok(())
-}
-
-/// Appends the new ids of a list.
-fn gather(ids: &mut Vec<u32>, list: MappedPostings<'_, '_>) -> Result<(), IndexFault>
-    ensures ok { OnOk result (ids.new.items ≡ ids.old.items ++ list.entry.ids) }
-    ensures fault { IsListAnswer list.entry.whole result }
-{
-    let mut rest = list;
-    'ids: while let Some(id) = rest.first() {
-        ids.push(id)?;
-        rest.advance(id)?;
+    let mut older = Vec::new(alloc);
+    lists.older.append_to(&mut older)?;
+    if !runs.are_increasing() {
+        lists.newer.append_to(&mut older)?;
+        // Most of the ids ascend already, which a stable sort makes use of.
+        older.sort()?;
+        write_both(sections, trigram, &older, &[])?;
+        return Ok(());
     }
+    let mut newer = Vec::new(alloc);
+    lists.newer.append_to(&mut newer)?;
+    write_both(sections, trigram, &older, &newer)?;
     Ok(())
 }
 
-/// Writes the list of a trigram from ascending ids.
-fn write_ids(sections: &mut Sections, trigram: u32, ids: &[u32]) -> Result<(), AllocError>
+/// Writes the merged list of one trigram from the ascending ids of both lists.
+fn write_both(
+    sections: &mut Sections,
+    trigram: u32,
+    older: &[u32],
+    newer: &[u32],
+) -> Result<(), AllocError>
     requires above { AllBelow sections.old.lists trigram }
-    requires rise { AscendWithin (length sections.old.names) 0 ids.now }
-    requires below { (trigram < closing_trigram) ⊎ (ids.now ≡ []) }
-    ensures { OnOk result (IsMergedList trigram sections.old sections.new ids.now [] [] []) }
+    requires older_rise { AscendWithin (length sections.old.names) 0 older.now }
+    requires newer_rise { AscendWithin (length sections.old.names) 0 newer.now }
+    requires below { (trigram < closing_trigram) ⊎ ((older.now ≡ []) × (newer.now ≡ [])) }
+    ensures { OnOk result
+        (IsMergedList trigram sections.old sections.new older.now newer.now [] []) }
 {
-    if ids.is_empty() {
+    if older.is_empty() && newer.is_empty() {
         return Ok(());
     }
     sections.list(trigram);
-    'ids: for id in ids {
+    let mut at = 0;
+    'ids: for id in newer {
+        let end = write_ids(sections, older, at, Some(*id))?;
         sections.id(*id)?;
+        at = after_number(older, end, *id);
     }
+    write_ids(sections, older, at, None)?;
     Ok(())
+}
+
+/// Writes the ids from a position on that are below the limit, or all if there is none. Returns the
+/// position after them.
+fn write_ids(
+    sections: &mut Sections,
+    ids: &[u32],
+    at: usize,
+    limit: Option<u32>,
+) -> Result<usize, AllocError>
+    requires within { at ≤ length ids.now }
+    requires begun { sections.old.last_trigram ≢ None }
+    requires rise { AscendWithin (length sections.old.names)
+        (next_after 0 (last_ids sections.old)) (drop at ids.now) }
+    ensures ok { IfOk result (λ end. IsWrittenBelow limit sections.old sections.new
+        (drop at ids.now) (drop end ids.now)) }
+    ensures left { IfOk result (λ end. BeginFrom limit (drop end ids.now)) }
+    ensures within { IfOk result (λ end. end ≤ length ids.now) }
+{
+    let end = at + count_within(&ids[at..], limit);
+    sections.ids(&ids[at..end])?;
+    Ok(end)
+}
+
+/// The number of ids before the first one that is not below the limit.
+fn count_within(ids: &[u32], limit: Option<u32>) -> usize
+    ensures within { result ≤ length ids.now }
+    ensures below { AllByRecursion (IsBelow limit) (take result ids.now) }
+    ensures left { BeginFrom limit (drop result ids.now) }
+{
+    'ids: for at in 0..ids.len() {
+        if !is_within(ids[at], limit) {
+            return at;
+        }
+    }
+    ids.len()
+}
+
+/// The position after the number if it is at this one, else this position.
+fn after_number(ids: &[u32], at: usize, number: u32) -> usize
+    requires { at ≤ length ids.now }
+    ensures after { drop result ids.now ≡ without_number number (drop at ids.now) }
+    ensures within { result ≤ length ids.now }
+{
+    if at < ids.len() && ids[at] == number {
+        return at + 1;
+    }
+    at
 }
 
 /// Writes the merged list of one trigram by a two-way merge. A list without ids leaves no entry.
@@ -176,7 +247,7 @@ fn write_next(
 {
     sections.id(id)?;
     if list.has_long_run() {
-        let run = list.next_run(id, limit);
+        let run = list.run(id, limit);
         sections.encoded_run(&run)?;
     }
     list.advance(id)?;

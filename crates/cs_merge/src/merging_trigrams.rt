@@ -227,9 +227,7 @@ fn older_list<'a, 'b>(
     are_valid(tables);
     if let Some((found, ids)) = reader.list_at(tables, position) {
         if found == trigram {
-            if let Some((_found, again)) = reader.list_at(tables, position) {
-                return MappedPostings::new(ids, again, runs);
-            }
+            return MappedPostings::new(ids, runs);
         }
     }
     Ok(MappedPostings::none(runs))
@@ -249,9 +247,7 @@ fn newer_list<'a, 'b>(
     index.are_valid();
     if let Some((found, ids)) = index.list_at(position) {
         if found == trigram {
-            if let Some((_found, again)) = index.list_at(position) {
-                return MappedPostings::new(ids, again, runs);
-            }
+            return MappedPostings::new(ids, runs);
         }
     }
     Ok(MappedPostings::none(runs))

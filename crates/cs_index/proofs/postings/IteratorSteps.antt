@@ -40,6 +40,16 @@ yields_none r e = none r.ids r.whole e
     none [] false h = cc
     none (x ∷ xs) a h = cc
 
+-- an item that is no id comes from a damaged list
+pub yields_no_id : (r s : Ids) (x : Result ℕ IndexFault) → ids_given r ≡ x ∷ ids_given s → ((id : ℕ) → x ≡ Ok id → ⊥) →
+    r.whole ≡ false
+yields_no_id r s x e none = by_ids r.ids r.whole e
+  where
+    by_ids : (xs : List ℕ) (whole : Bool) → ids_given (record { ids = xs; whole = whole }) ≡ x ∷ ids_given s → whole ≡ false
+    by_ids [] true given = cc
+    by_ids [] false given = refl
+    by_ids (y ∷ ys) whole given = let head : ◌≡◌ {A = Result ℕ IndexFault} x (Ok y) = cc in absurd (none y head)
+
 -- ---- one more id
 
 pub mark_step : (marks : List Bool) (id k : ℕ) (rest : Bool) → id < length marks →

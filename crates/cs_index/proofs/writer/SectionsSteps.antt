@@ -417,6 +417,100 @@ given_all s now out count next more view is known named rise written counted fol
         })
         ∙ sym (with_all (written_of s) (closed_of s) s.trigram ids new known.begun (some_lists s known.some) known.apart)
 
+-- ---- several ids
+
+-- Ids as they are relative to an id before them.
+pub record AreRelative (from : ℕ) (ids more : List ℕ) : Type 0 where
+  pub are : ids_onward from more ≡ ids
+  pub rise : AscendWithin max_ids 0 more
+  pub end : from + next_after 0 more ≡ next_after from ids
+  pub long : length more ≡ length ids
+
+abbrev pub relative : ℕ → List ℕ → List ℕ
+relative from ids = map (λ id. id - from) ids
+
+are_relative : (count from : ℕ) (ids : List ℕ) → count ≤ max_ids → AscendWithin count from ids →
+    AreRelative from ids (relative from ids)
+are_relative count from ids bound up = record {
+  are = back from ids (omega arith) up;
+  rise = subst (λ n. AscendWithin max_ids n (relative from ids)) (let none : from - from ≡ 0 = omega arith in none)
+      (rises from ids (omega arith) up);
+  end = sym (onward_last from (relative from ids)) ∙ ap (next_after from) (back from ids (omega arith) up);
+  long = length-map ids (λ id. id - from);
+}
+  where
+    back : (next : ℕ) (ids : List ℕ) → from ≤ next → AscendWithin count next ids → ids_onward from (relative from ids) ≡ ids
+    back next [] h up = refl
+    back next (id ∷ ids) h up =
+        let one : from + (id - from) ≡ id = omega (arith, h, up.0) in
+        let rest = back (id + 1) ids (omega (arith, h, up.0)) up.2 in
+        λ i. one i ∷ rest i
+
+    rises : (next : ℕ) (ids : List ℕ) → from ≤ next → AscendWithin count next ids →
+        AscendWithin max_ids (next - from) (relative from ids)
+    rises next [] h up = tt
+    rises next (id ∷ ids) h up =
+        let on : id + 1 - from ≡ id - from + 1 = omega (arith, h, up.0) in (
+          omega (arith, up.0),
+          omega (arith, bound, up.1),
+          subst (λ n. AscendWithin max_ids n (relative from ids)) on (rises (id + 1) ids (omega (arith, h, up.0)) up.2),
+        )
+
+ends_within : (count next : ℕ) (ids : List ℕ) → next ≤ count → AscendWithin count next ids → next_after next ids ≤ count
+ends_within count next [] h up = h
+ends_within count next (id ∷ ids) h up = ends_within count (id + 1) ids (omega (arith, up.1)) up.2
+
+pub record GivenIds (s : Inside) (now : Written) (out : Outgoing) (count next : ℕ) (ids : List ℕ) : Type 0 where
+  pub are_sections : IsSections (after_ids s out count next)
+  pub is : written_of (after_ids s out count next) ≡ with_last_ids now ids
+
+module _ (s : Inside) (now : Written) (ids : List ℕ) (view : written_of s ≡ now) (sections : IsSections s)
+    (some : last_ids now ≢ []) (up : AscendWithin (length now.names) (next_after 0 (last_ids now)) ids) where
+  abbrev from : ℕ
+  from = next_after 0 (last_ids now)
+
+  known : AtLast s now
+  known = at_last s now view sections some
+
+  at : s.next ≡ from
+  at = known.open_list.follows ∙ ap (next_after 0) (sym known.last)
+
+  names : length s.names ≡ length now.names
+  names = ap (λ (l : Written). length l.names) view
+
+  few : length now.names ≤ max_ids
+  few = let bound = sections.output.bound in omega (arith, bound, names)
+
+  within : from ≤ length now.names
+  within =
+      let each = (all_prefix (IsPostingList (length s.names)) (closed_of s) (s.trigram, current_ids s)
+      (subst (AllByRecursion (IsPostingList (length s.names))) (some_lists s known.some) sections.output.postings.each)).1 in
+      let last = ends_within (length s.names) 0 (current_ids s) (omega arith) each.1 in
+      let here : from ≡ next_after 0 (current_ids s) = ap (next_after 0) known.last in
+      omega (arith, last, here, names)
+
+  more : AreRelative from ids (relative from ids)
+  more = are_relative (length now.names) from ids few up
+
+  named : from + next_after 0 (relative from ids) ≤ length now.names
+  named = let end = ends_within (length now.names) from ids within up in omega (arith, end, more.end)
+
+  pub deltas_rise : AscendWithin max_ids s.next ids
+  deltas_rise = subst (λ n. AscendWithin max_ids n ids) (sym at) (rise_wider (length now.names) max_ids from ids few up)
+
+  pub ids_fit : s.count + length ids ≤ 2 ^ 31
+  ids_fit = let bound = count_all s now (relative from ids) view sections known named more.rise in omega (arith, bound.0, more.long)
+
+  pub given_ids : (out : Outgoing) (count next : ℕ) → out ≡ with_bytes s.out (flat_map varint (deltas_from s.next ids)) →
+      count ≡ s.count + length ids → next ≡ next_after s.next ids → GivenIds s now out count next ids
+  given_ids out count next written counted follows =
+      let all = given_all s now out count next (relative from ids) view sections known named more.rise
+      (written ∙ ap (with_bytes s.out)
+      ((λ i. flat_map varint (deltas_from (at i) (sym more.are i))) ∙ onward_stream from (relative from ids)))
+      (counted ∙ ap (λ n. s.count + n) (sym more.long))
+      (follows ∙ (λ i. next_after (at i) ids) ∙ sym more.end ∙ ap (λ n. n + next_after 0 (relative from ids)) (sym at)) in
+      record { are_sections = all.are_sections; is = all.is ∙ ap (with_last_ids now) more.are }
+
 -- ---- one id
 
 one_varint : (id : ℕ) → stream_of (id ∷ []) ≡ varint (id + 1)

@@ -1,8 +1,9 @@
 // A posting list, decoded id by id from the bytes of an index (Go: `postReader` in index/read.go).
-ghost use Rattle.std.specs.Prelude.{◌≡◌, ◌<◌, ◌+◌, ◌++◌, ◌≤◌, ◌^◌, Some, None, drop, length, IfSome, MatchOption};
+ghost use Rattle.std.specs.Prelude.{◌≡◌, ◌<◌, ◌+◌, ◌++◌, ◌≤◌, ◌^◌, true, Some, None, drop, length, IfSome, MatchOption, MatchResult, OnOk};
 ghost use Rattle.std.specs.List.{AllByRecursion};
 ghost use Rattle.std.specs.Iterator.{YieldsFirst, item_count};
-ghost use Rattle.cs_index.specs.Cited.{ids_onward, max_ids, ids_given, damage, read_ids, varint_at, read_varint, IsStep};
+ghost use Rattle.cs_index.specs.Cited.{ids_onward, max_ids, ids_given, damage, read_ids, varint_at, read_varint, IsListFault, IsStep, new_ids_of};
+ghost use Rattle.cs_index.specs.MappedIds.{new_id as new_id'};
 
 use crate::encoded_run::EncodedRun;
 use crate::fault::IndexFault;
@@ -67,6 +68,26 @@ impl<'a> Postings<'a> {
         ids
     }
 
+    /// Reads the list to its end, and appends the new ids of its ids. `new_ids` has them by id.
+    pub fn map_into(self, new_ids: &[Option<u32>], out: &mut Vec<u32>) -> Result<(), IndexFault>
+        ensures ok { OnOk result
+            (out.new.items ≡ out.old.items ++ new_ids_of new_ids.now self.entry.ids) }
+        ensures whole { MatchResult result
+            (λ _. self.entry.whole ≡ true) (IsListFault self.entry.whole) }
+    {
+        let mut rest = self;
+        'ids: while let Some(answer) = rest.next() {
+            let Ok(id) = answer else {
+                return Err(IndexFault::BadList);
+            };
+            let Some(new) = new_id(new_ids, id) else {
+                continue;
+            };
+            out.push(new)?;
+        }
+        Ok(())
+    }
+
     /// A list that is damaged from the start.
     pub(crate) fn damage() -> Postings<'a>
         ensures { result ≡ damage }
@@ -102,6 +123,14 @@ impl<'a> Iterator for Postings<'a> {
             }
         }
     }
+}
+
+/// The new id of an id, if it has one.
+#[inline(always)]
+fn new_id(new_ids: &[Option<u32>], id: u32) -> Option<u32>
+    ensures { result ≡ new_id' new_ids.now id }
+{
+    *new_ids.get(id as usize)?
 }
 
 /// A posting list between two ids: the number of ids that are left, one more than the id before,

@@ -1,11 +1,11 @@
 // The bytes of an index, section by section, on their way to an output.
 ghost use Rattle.std.specs.Prelude.{◌≡◌, ◌<◌, ◌≤◌, ◌⊎◌, ◌^◌, ◌++◌, ◌∷◌, [], List, ℕ, length, map, flat_map, Err, IfOk, IfErr, OnOk, OnErr, ◌+◌};
 ghost use Rattle.std.specs.List.{AllByRecursion, concat};
-ghost use Rattle.cs_index.specs.Cited.{entry_bytes, four_bytes, layout, list_entries, posting_list_bytes, sections_of, trailer_magic, ListEntry, varint, entry_from, lists_at, bytes_in, all_sent, with_bytes, prefix_of};
+ghost use Rattle.cs_index.specs.Cited.{AscendWithin, deltas_from, max_ids, next_after, entry_bytes, four_bytes, layout, list_entries, posting_list_bytes, sections_of, trailer_magic, ListEntry, varint, entry_from, lists_at, bytes_in, all_sent, with_bytes, prefix_of};
 
 use crate::fault::BuildFault;
 use crate::format::{MAGIC, TRAILER_LEN, TRAILER_MAGIC};
-use crate::writing::strings::{Strings, push_varint, write_entry, write_numbers};
+use crate::writing::strings::{Strings, push_deltas, push_varint, write_entry, write_numbers};
 use cs_output::{Output, Sent};
 use std::alloc::{AllocError, Global};
 use std::marker::Model;
@@ -95,6 +95,18 @@ impl SendBuffer {
         ensures err { OnErr result (self.new ≡ self.old) }
     {
         push_varint(&mut self.bytes, n)
+    }
+
+    /// Appends the varint deltas of ascending ids, as `push_deltas` does. On error nothing changes.
+    #[inline]
+    pub(crate) fn append_deltas(&mut self, ids: &[u32], next: u32) -> Result<u32, AllocError>
+        requires { AscendWithin max_ids next ids.now }
+        ensures bytes { OnOk result
+            (self.new ≡ with_bytes self.old (flat_map varint (deltas_from next ids.now))) }
+        ensures end { IfOk result (λ end. end ≡ next_after next ids.now) }
+        ensures err { OnErr result (self.new ≡ self.old) }
+    {
+        push_deltas(&mut self.bytes, ids, next)
     }
 
     /// Appends two slices. On error nothing changes.

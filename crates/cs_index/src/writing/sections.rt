@@ -1,6 +1,6 @@
 // The section writer: the one layer that encodes an index.
 ghost use Rattle.std.specs.Prelude.{◌≡◌, ◌≢◌, ◌<◌, ◌≤◌, ◌+◌, ◌^◌, ◌++◌, ◌⊎◌, ◌↔◌, [], ◌∷◌, List, ℕ, true, false, length, map, string_bytes, None, Some, Err, IfOk, IfErr, OnOk, OnErr};
-ghost use Rattle.cs_index.specs.Cited.{closing_trigram, ids_in, IsStream, next_after, ids_onward, max_ids, encoding_of, posting_list_bytes, IsString, IsIndexable, are_paths, is_above, is_storable, entries_written, last_ids, with_written_name, with_last_id, with_last_ids, with_list, with_sent, prefix_of, AllBelow, IsSentEarly, bytes_in, with_bytes, IsSentOn, first_of, with_posting, AreFirstIds, IsWritten};
+ghost use Rattle.cs_index.specs.Cited.{closing_trigram, AscendWithin, ids_in, IsStream, next_after, ids_onward, max_ids, encoding_of, posting_list_bytes, IsString, IsIndexable, are_paths, is_above, is_storable, entries_written, last_ids, with_written_name, with_last_id, with_last_ids, with_list, with_sent, prefix_of, AllBelow, IsSentEarly, bytes_in, with_bytes, IsSentOn, first_of, with_posting, AreFirstIds, IsWritten};
 ghost use Rattle.std.specs.List.{AllByRecursion, concat};
 
 use crate::encoded_run::EncodedRun;
@@ -130,6 +130,32 @@ impl Sections {
                 self.begin(trigram, &bytes[..len], 1, id + 1)
             }
         }
+    }
+
+    /// Appends ascending ids to the current list. On error some of them may be appended.
+    pub fn ids(&mut self, ids: &[u32]) -> Result<(), AllocError>
+        requires begun { self.old.last_trigram ≢ None }
+        requires rise { AscendWithin (length self.old.names) (next_after 0 (last_ids self.old)) ids.now }
+        ensures { OnOk result (self.new ≡ with_last_ids self.old ids.now) }
+    {
+        if ids.is_empty() {
+            return Ok(());
+        }
+        self.id(ids[0])?;
+        self.more_ids(&ids[1..])?;
+        Ok(())
+    }
+
+    /// Appends ascending ids to the current list, after its first one.
+    fn more_ids(&mut self, ids: &[u32]) -> Result<(), AllocError>
+        requires some { last_ids self.old ≢ [] }
+        requires rise { AscendWithin (length self.old.names) (next_after 0 (last_ids self.old)) ids.now }
+        ensures { OnOk result (self.new ≡ with_last_ids self.old ids.now) }
+    {
+        let next = self.out.append_deltas(ids, self.next)?;
+        self.next = next;
+        self.count += ids.len() as u32;
+        Ok(())
     }
 
     /// Appends an encoded run, relative to the last id of the current list. On error nothing

@@ -5,7 +5,7 @@ ghost use Rattle.std.specs.Option.{option_copied};
 ghost use Rattle.std.specs.List.{AllByRecursion, concat, list_all};
 ghost use Rattle.std.specs.declared.string.String.{String};
 ghost use Rattle.std.specs.declared.alloc.Global.{Global};
-ghost use Rattle.cs_index.specs.Cited.{strings_section, name_offsets, with_nul, four_bytes, IsString, entry_bytes, varint, varint_within, are_paths, is_above, is_storable, are_ascending};
+ghost use Rattle.cs_index.specs.Cited.{AscendWithin, deltas_from, max_ids, next_after, strings_section, name_offsets, with_nul, four_bytes, IsString, entry_bytes, varint, varint_within, are_paths, is_above, is_storable, are_ascending};
 ghost use Rattle.cs_tree.specs.Cover.{is_alone as is_alone'};
 
 use cs_tree::is_alone;
@@ -212,7 +212,7 @@ pub(crate) fn write_entry(
 }
 
 /// Appends a number in as few bytes as possible. On error nothing is appended.
-#[inline]
+#[inline(always)]
 pub(crate) fn push_varint(out: &mut Vec<u8>, n: u32) -> Result<(), AllocError>
     ensures ok { OnOk result (out.new.items ≡ out.old.items ++ varint n) }
     ensures err { OnErr result (out.new.items ≡ out.old.items) }
@@ -221,8 +221,42 @@ pub(crate) fn push_varint(out: &mut Vec<u8>, n: u32) -> Result<(), AllocError>
         out.push(n as u8)?;
         return Ok(());
     }
+    push_long(out, n)
+}
+
+/// `push_varint` of several bytes, apart so that the case of one byte is inlined.
+#[inline(never)]
+fn push_long(out: &mut Vec<u8>, n: u32) -> Result<(), AllocError>
+    ensures ok { OnOk result (out.new.items ≡ out.old.items ++ varint n) }
+    ensures err { OnErr result (out.new.items ≡ out.old.items) }
+{
     let (bytes, len) = encode_varint(n);
     out.extend_from_slice(&bytes[..len])
+}
+
+/// Appends the varint deltas of ascending ids, where `next` is one more than the id before them.
+/// Returns one more than the last id. On error nothing is appended.
+pub(crate) fn push_deltas(out: &mut Vec<u8>, ids: &[u32], next: u32) -> Result<u32, AllocError>
+    requires { AscendWithin max_ids next ids.now }
+    ensures bytes { OnOk result
+        (out.new.items ≡ out.old.items ++ flat_map varint (deltas_from next ids.now)) }
+    ensures end { IfOk result (λ end. end ≡ next_after next ids.now) }
+    ensures err { OnErr result (out.new.items ≡ out.old.items) }
+{
+    let len = out.len();
+    let mut next = next;
+    'ids: for id in ids {
+        let end = *id + 1;
+        let delta = end - next;
+        match push_varint(out, delta) {
+            Ok(()) => next = end,
+            Err(fault) => {
+                out.truncate(len);
+                return Err(fault);
+            }
+        }
+    }
+    Ok(next)
 }
 
 /// The varint of a number, and its length.

@@ -1,4 +1,4 @@
-use Rattle.std.proofs.Common.{◌≡◌, ◌++◌, ℕ, List}
+use Rattle.std.proofs.Common.{◌≡◌}
 use Rattle.cs_merge.proofs.Common.{new_ids_of}
 use Rattle.cs_merge.proofs.mapped_postings.next_kept.Given as goal
 
@@ -6,5 +6,4 @@ abbrev pub invariant-ids : goal.invariant-ids
 invariant-ids l = record {
   left : new_ids_of l.runs l.ids.ids ≡ new_ids_of l.runs l.initial.ids.ids;
   whole : l.ids.whole ≡ l.initial.ids.whole;
-  rest : (passed : List ℕ) × (l.initial.ids.ids ≡ passed ++ l.ids.ids);
 }

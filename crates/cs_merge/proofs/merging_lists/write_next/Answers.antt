@@ -20,7 +20,7 @@ encoded_run-requires-clause-some c = some_written c.args.limit c.args.sections.n
 pub encoded_run-requires-clause-named : goal.encoded_run-requires-clause-named
 encoded_run-requires-clause-named c = run_fits c.args.limit c.args.sections.now c.id.new.self c.args.list.now.ids
     c.args.id c.requires.first c.requires.within c.requires.begun c.in_ok-id.ensures.ok c.requires.rise
-    c.next_run-run.result c.next_run-run.new.self.ids c.next_run-run.ensures.run
+    c.run-run.result c.run-run.new.self.ids c.run-run.ensures.run
 
 pub returns-clause-ok : goal.returns-clause-ok
 returns-clause-ok c =
@@ -34,8 +34,8 @@ returns-clause-ok c =
           (subst (λ (l : List ℕ). IsWrittenBelow c.args.limit before w.encoded_run.new.self ids l)
           (sym (left ∙ ap (λ (r : Ids). without_number c.args.id r.ids) w.list-is))
           (run_written c.args.limit before c.id.new.self ids c.args.id c.requires.first c.requires.within
-          c.requires.begun c.in_ok-id.ensures.ok c.requires.rise w.next_run-run.result w.next_run-run.new.self.ids
-          w.next_run-run.ensures.run w.encoded_run.new.self w.in_ok-encoded_run.ensures.ok))
+          c.requires.begun c.in_ok-id.ensures.ok c.requires.rise w.run-run.result w.run-run.new.self.ids
+          w.run-run.ensures.run w.encoded_run.new.self w.in_ok-encoded_run.ensures.ok))
       | else-has_long_run w ↦
           subst (λ (s : Written). IsWrittenBelow c.args.limit before s ids c.advance.new.self.ids) (sym w.sections-is)
           (subst (λ (l : List ℕ). IsWrittenBelow c.args.limit before c.id.new.self ids l)
@@ -55,8 +55,8 @@ returns-clause-fewer c =
           subst (λ (l : List ℕ). length l < length ids)
           (sym (left ∙ ap (λ (r : Ids). without_number c.args.id r.ids) w.list-is))
           (run_fewer c.args.limit before c.id.new.self ids c.args.id c.requires.first c.requires.within
-          c.requires.begun c.in_ok-id.ensures.ok c.requires.rise w.next_run-run.result w.next_run-run.new.self.ids
-          w.next_run-run.ensures.run)
+          c.requires.begun c.in_ok-id.ensures.ok c.requires.rise w.run-run.result w.run-run.new.self.ids
+          w.run-run.ensures.run)
       | else-has_long_run w ↦
           subst (λ (l : List ℕ). length l < length ids)
           (sym (left ∙ ap (λ (r : Ids). without_number c.args.id r.ids) w.list-is))

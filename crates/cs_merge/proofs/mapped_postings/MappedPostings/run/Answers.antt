@@ -1,7 +1,6 @@
-use Rattle.std.proofs.Common.{◌≡◌, ℕ, ◌+◌, ◌-◌, ◌<◌, ◌≤◌, min, List, Some, sym, ap, subst, ◌∙◌, arith, slice_get}
-use Rattle.cs_merge.proofs.Common.{same_Some, cons_option, all_weaker, AllByRecursion, Ids, ids_onward, new_ids_of, IsRunOf, none-some}
-use Rattle.cs_merge.proofs.IdRunLemmas.{has_first, is_run, run_kept, still_mapped}
-use Rattle.cs_merge.proofs.ReadAheadLemmas.{followed_left}
+use Rattle.std.proofs.Common.{◌≡◌, ℕ, ◌+◌, ◌-◌, ◌<◌, ◌≤◌, List, Some, sym, ap, subst, ◌∙◌, arith, slice_get}
+use Rattle.cs_merge.proofs.Common.{same_Some, cons_option, AllByRecursion, Ids, new_ids_of, IsRunOf, none-some}
+use Rattle.cs_merge.proofs.IdRunLemmas.{is_run}
 use Rattle.cs_merge.proofs.mapped_postings.MappedPostings.run.Goals as goal
 use Rattle.cs_merge.proofs.mapped_postings.MappedPostings.run.Goals.{in-None, in-Some}
 
@@ -17,25 +16,10 @@ returns-clause-run c =
           let same = same_Some w.in-Some.limit least (sym w.in-Some.is ∙ e) in
           omega (arith, same, w.saturating_sub.ensures, w.saturating_add-most.ensures, w.most-is)
     ] in
-    let all = subst (λ n. AllByRecursion (λ other. s.last + 1 + other < n) c.encoded_run.result) c.min.ensures c.encoded_run.ensures.below in
-    let first = has_first s.runs.now s.first s.last c.args.id s.stop s.rest s.ahead c.self.invariant there in
     subst (λ (ids : List ℕ). IsRunOf c.args.id c.args.limit c.encoded_run.result ids
     (cons_option s.first (new_ids_of s.runs.now c.encoded_run.new.self.ids)))
     (ap (λ (r : Ids). r.ids) c.self.view_is)
-    (is_run s.runs.now s.first s.last c.args.id s.stop s.rest s.ahead c.self.invariant there c.args.limit c.end-end.result
+    (is_run s.runs.now s.first s.last c.args.id s.rest c.self.invariant there c.args.limit c.end-end.result
     c.match-limit.most c.encoded_run.result c.encoded_run.new.self.ids
-    c.encoded_run.ensures.ids
-    (run_kept s.runs.now s.last c.end-end.result c.args.id c.encoded_run.result (c.self.invariant.first_is c.args.id first)
-    c.end-end.ensures (all_weaker (λ other. s.last + 1 + other < min c.end-end.result c.match-limit.most)
-    (λ other. s.last + 1 + other < c.end-end.result) (λ n h. omega (arith, h)) c.encoded_run.result all))
-    all short)
-
-pub invariant_of-self : goal.invariant_of-self
-invariant_of-self c =
-    let s = c.self.inside in
-    let there : slice_get (cons_option s.first (new_ids_of s.runs.now s.rest.ids)) 0 ≡ Some c.args.id =
-    ap (λ (r : Ids). slice_get r.ids 0) c.self.view_is ∙ c.requires in
-    still_mapped s.runs.now s.first s.last c.args.id s.stop s.rest s.ahead c.self.invariant there
-    s.stop c.encoded_run.new.self s.ahead
-    (followed_left s.runs.now s.first s.last s.stop (ids_onward (s.last + 1) c.encoded_run.result) c.encoded_run.new.self.ids
-    s.rest.ids s.ahead.ids c.encoded_run.ensures.ids c.self.invariant.followed)
+    c.encoded_run.ensures.ids c.end-end.ensures
+    (subst (λ n. AllByRecursion (λ other. s.last + 1 + other < n) c.encoded_run.result) c.min.ensures c.encoded_run.ensures.below) short)

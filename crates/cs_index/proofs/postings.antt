@@ -1,6 +1,7 @@
 pub mod EncodedRuns
 pub mod IteratorSteps
 pub mod ListAtEntry
+pub mod MappedSteps
 pub mod Prefixes
 pub mod ReadStep
 pub mod ShortBytes

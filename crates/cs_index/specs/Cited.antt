@@ -22,7 +22,7 @@ pub use Rattle.cs_index.specs.Gathering.{lists_below, lists_from}
 pub use Rattle.cs_index.specs.IdStream.{IsMarked, IsStream, ids_by_deltas, ids_in}
 pub use Rattle.cs_index.specs.Indexable.{IsIndexable}
 pub use Rattle.cs_index.specs.LeastLength.{least_length}
-pub use Rattle.cs_index.specs.ListDecoding.{IsStep}
+pub use Rattle.cs_index.specs.ListDecoding.{AreMappedBytes, IsStep}
 pub use Rattle.cs_index.specs.ListReading.{AreBytesOf, HasList, known_ids, list_in}
 pub use Rattle.cs_index.specs.MappedIds.{new_ids_of}
 pub use Rattle.cs_index.specs.MaxNames.{max_names}

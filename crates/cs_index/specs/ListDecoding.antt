@@ -1,6 +1,7 @@
 -- One step of decoding a posting list.
 -- docs/FORMAT.md, "The index as it is read".
 use Rattle.std.specs.Prelude.{◌≡◌, ◌<◌, ◌≤◌, ◌⊎◌, ℕ, ◌+◌, ◌-◌, List, [], ◌++◌, length, drop}
+use Rattle.cs_index.specs.MappedIds.{NewIds, new_ids_of}
 use Rattle.cs_index.specs.PostingLists.{Ids, onto, read_ids}
 use Rattle.cs_index.specs.declared.reading.postings.ListDecoder.{ListDecoder}
 use Rattle.cs_index.specs.declared.reading.postings.Step.{Step}
@@ -32,3 +33,13 @@ abbrev pub IsStep : ListDecoder → List ℕ → Step → Type 0
 IsStep d bytes (Id id len) = IsNextId d bytes id len
 IsStep d bytes (End whole) =
     (more : List ℕ) → HaveVarint bytes more → ids_ahead d (bytes ++ more) ≡ record { ids = []; whole = whole }
+
+-- The first ids of a list are read, each from one byte, and their new ids are appended.
+pub record AreMappedBytes (d : ListDecoder) (bytes : List ℕ) (new_ids : NewIds) (count next : ℕ) (out mapped : List ℕ) : Type 0 where
+  pub within : count ≤ length bytes
+  pub few : count ≤ d.left
+  pub named : next ≤ d.name_count
+  pub ids : mapped ++ new_ids_of new_ids (read_ids d.name_count (d.left - count) next (drop count bytes)).ids
+      ≡ out ++ new_ids_of new_ids (ids_ahead d bytes).ids
+  pub whole : (read_ids d.name_count (d.left - count) next (drop count bytes)).whole ≡ (ids_ahead d bytes).whole
+  pub fewer : length (read_ids d.name_count (d.left - count) next (drop count bytes)).ids ≤ length (ids_ahead d bytes).ids

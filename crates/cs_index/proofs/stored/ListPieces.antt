@@ -87,7 +87,7 @@ refused name_count (suc left) next delta bytes rest some order read bad =
     outside (inr past) = ap (λ b. ltb 0 delta && b)
         (le-ltb (next + delta) (name_count + 1) (omega (arith, past, order))) ∙ and-false (ltb 0 delta)
 
-taken : (name_count left next delta : ℕ) (bytes rest : List ℕ) → (left ≡ 0 → ⊥) → next ≤ name_count → read_varint bytes
+pub taken : (name_count left next delta : ℕ) (bytes rest : List ℕ) → (left ≡ 0 → ⊥) → next ≤ name_count → read_varint bytes
     ≡ Some (delta, rest) → (delta ≡ 0 → ⊥) → delta ≤ name_count - next → read_ids name_count left next bytes
     ≡ onto (next + delta - 1) (read_ids name_count (left - 1) (next + delta) rest)
 taken name_count zero next delta bytes rest some order read above within = absurd (some refl)

@@ -1,12 +1,13 @@
 // A posting list, decoded id by id from the bytes of an index (Go: `postReader` in index/read.go).
-ghost use Rattle.std.specs.Prelude.{◌≡◌, ◌<◌, ◌+◌, ◌++◌, ◌≤◌, ◌^◌, true, Some, None, drop, length, IfSome, MatchOption, MatchResult, OnOk};
-ghost use Rattle.std.specs.List.{AllByRecursion};
+ghost use Rattle.std.specs.Prelude.{◌≡◌, ◌<◌, ◌+◌, ◌++◌, ◌≤◌, ◌^◌, [], true, Some, None, drop, length, IfOk, IfSome, MatchOption, MatchResult, OnOk};
+ghost use Rattle.std.specs.List.{AllByRecursion, cons_option};
 ghost use Rattle.std.specs.Iterator.{YieldsFirst, item_count};
-ghost use Rattle.cs_index.specs.Cited.{ids_onward, max_ids, ids_given, damage, read_ids, varint_at, read_varint, IsListFault, IsStep, new_ids_of};
+ghost use Rattle.cs_index.specs.Cited.{ids_onward, max_ids, ids_given, damage, read_ids, varint_at, read_varint, AreMappedBytes, IsListFault, IsStep, new_ids_of};
 ghost use Rattle.cs_index.specs.MappedIds.{new_id as new_id'};
 
 use crate::encoded_run::EncodedRun;
 use crate::fault::IndexFault;
+use std::alloc::AllocError;
 use std::marker::Model;
 
 /// The ids of a posting list, ascending. If the list is damaged: the ids before the damage, then
@@ -80,11 +81,26 @@ impl<'a> Postings<'a> {
             let Ok(id) = answer else {
                 return Err(IndexFault::BadList);
             };
-            let Some(new) = new_id(new_ids, id) else {
-                continue;
-            };
-            out.push(new)?;
+            push_new(out, new_id(new_ids, id))?;
+            rest.map_short(new_ids, out)?;
         }
+        Ok(())
+    }
+
+    /// Reads the next ids whose deltas have one byte each, and appends their new ids.
+    fn map_short(&mut self, new_ids: &[Option<u32>], out: &mut Vec<u32>) -> Result<(), AllocError>
+        ensures ids { OnOk result (out.new.items ++ new_ids_of new_ids.now self.new.ids
+            ≡ out.old.items ++ new_ids_of new_ids.now self.old.ids) }
+        ensures whole { OnOk result (self.new.whole ≡ self.old.whole) }
+        ensures fewer { OnOk result (length self.new.ids ≤ length self.old.ids) }
+    {
+        if self.has_ended {
+            return Ok(());
+        }
+        let (count, next) = map_bytes(self.bytes, &self.decoder, new_ids, out)?;
+        self.bytes = &self.bytes[count..];
+        self.decoder.left -= count as u32;
+        self.decoder.next = next;
         Ok(())
     }
 
@@ -131,6 +147,49 @@ fn new_id(new_ids: &[Option<u32>], id: u32) -> Option<u32>
     ensures { result ≡ new_id' new_ids.now id }
 {
     *new_ids.get(id as usize)?
+}
+
+/// Appends a new id, if there is one.
+#[inline(always)]
+fn push_new(out: &mut Vec<u32>, new: Option<u32>) -> Result<(), AllocError>
+    ensures { OnOk result (out.new.items ≡ out.old.items ++ cons_option new []) }
+{
+    if let Some(new) = new {
+        out.push(new)?;
+    }
+    Ok(())
+}
+
+/// Decodes the ids that the bytes begin with, as long as each delta has one byte, and appends their
+/// new ids. Returns the number of ids, and one more than the last one.
+#[inline(always)]
+fn map_bytes(
+    bytes: &[u8],
+    decoder: &ListDecoder,
+    new_ids: &[Option<u32>],
+    out: &mut Vec<u32>,
+) -> Result<(usize, u32), AllocError>
+    requires { decoder.now.next ≤ decoder.now.name_count }
+    ensures { IfOk result (λ read. AreMappedBytes
+        decoder.now bytes.now new_ids.now read.0 read.1 out.old.items out.new.items) }
+{
+    let most = bytes.len().min(decoder.left as usize);
+    out.reserve(most)?;
+    let mut count = 0;
+    let mut next = decoder.next;
+    'ids: while count < most {
+        let delta = bytes[count] as u32;
+        if delta == 0 || delta >= 128 || delta > decoder.name_count - next {
+            return Ok((count, next));
+        }
+        next += delta;
+        count += 1;
+        let Some(new) = new_id(new_ids, next - 1) else {
+            continue;
+        };
+        out.push_reserved(new);
+    }
+    Ok((count, next))
 }
 
 /// A posting list between two ids: the number of ids that are left, one more than the id before,

@@ -1,6 +1,6 @@
 -- Maps from old ids to the ids of the merged index.
 -- docs/PROMISES.md, "Merging"; index/merge.go, "idMap".
-use Rattle.std.specs.Prelude.{◌≡◌, ℕ, ◌+◌, ◌-◌, ◌<◌, ◌≤◌, Bool, true, false, List, [], Option, Some, None, slice_get, slice_index, length, option_and_then, option_map, filter_map}
+use Rattle.std.specs.Prelude.{◌≡◌, ℕ, ◌+◌, ◌-◌, ◌<◌, ◌≤◌, Bool, true, false, List, [], Option, Some, None, slice_get, slice_index, length, option_map}
 use Rattle.cs_tree.specs.NamesAscending.{are_ascending}
 use Rattle.cs_index.specs.Built.{is_above}
 use Rattle.cs_index.specs.Written.{Written}

@@ -8,7 +8,7 @@ ghost use Rattle.cs_tree.specs.PathSet as set;
 
 use crate::fault::MergeFault;
 use crate::joining_lists::join_lists;
-use crate::merging::{begin_least, copy, finish};
+use crate::merging::{begin_least, finish};
 use crate::merging_trigrams::are_valid;
 use crate::stored_part::StoredPart;
 use cs_index::{IndexFault, ListReader, OldIndex, Sections, Texts};
@@ -118,7 +118,7 @@ fn begin_paths<S: Store>(alloc: Global, parts: &[StoredPart<S>]) -> Result<Secti
     'parts: for part in parts {
         let tables = part.index.tables();
         are_valid(&tables);
-        copy(alloc, &mut paths, tables.paths())?;
+        tables.paths().append_to(alloc, &mut paths)?;
     }
     begin_least(alloc, &paths)
 }

@@ -1,5 +1,5 @@
 // The merge of an index with a newer one.
-ghost use Rattle.std.specs.Prelude.{◌≡◌, ◌++◌, ℕ, List, [], Some, map, string_bytes, IfErr, IfOk, OnOk, MatchResult};
+ghost use Rattle.std.specs.Prelude.{◌≡◌, ℕ, List, [], Some, map, string_bytes, IfErr, IfOk, MatchResult};
 ghost use Rattle.std.specs.List.{AllByRecursion};
 ghost use Rattle.cs_merge.specs.Cited.{KeepsStore, is_covered, least, IsString, encoding_of, Parts, paths_in, TablesIn, IsSentOn, entries_written, AreMergedNames, IsBegun, IsBegunWith, known_parts, IsStored, merge_paths, AreTested, most_bytes, IsBuildFault, IsGivenIndex, IsIndexWithin, IsMerged, IsMergeAnswer, IsMergeFault, AreIndexNames, AreTestedNames};
 ghost use Rattle.cs_tree.specs.PathSet as set;
@@ -188,8 +188,8 @@ fn begin_paths(alloc: Global, old: Texts<'_>, newer: Texts<'_>) -> Result<Sectio
         (set.items (merge_paths (set.from_list old.entry) (set.from_list newer.entry)))) }
 {
     let mut paths = Vec::new(alloc);
-    copy(alloc, &mut paths, old)?;
-    copy(alloc, &mut paths, newer)?;
+    old.append_to(alloc, &mut paths)?;
+    newer.append_to(alloc, &mut paths)?;
     begin_least(alloc, &paths)
 }
 
@@ -206,21 +206,6 @@ pub(crate) fn begin_least(alloc: Global, paths: &[String]) -> Result<Sections, A
         Err(BuildFault::BadPaths) => unreachable!(),
         Err(_) => Err(AllocError),
     }
-}
-
-/// Appends a copy of each text.
-pub(crate) fn copy(
-    alloc: Global,
-    copies: &mut Vec<String>,
-    texts: Texts<'_>,
-) -> Result<(), AllocError>
-    ensures { OnOk result (map string_bytes copies.new.items ≡
-        map string_bytes copies.old.items ++ texts.entry) }
-{
-    'texts: for text in texts {
-        copies.push(String::from_str(alloc, text)?)?;
-    }
-    Ok(())
 }
 
 /// Encodes the index and sends what is not sent yet. `TooLarge` if it has more than `most` bytes.

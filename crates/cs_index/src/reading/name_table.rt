@@ -1,5 +1,5 @@
 // The names of an index by their ids, in order too, and an iterator over the strings of a section.
-ghost use Rattle.std.specs.Prelude.{◌≡◌, length, slice_get, IfOk, List, ℕ, option_map, map, ◌||◌, ◌∷◌, [], true};
+ghost use Rattle.std.specs.Prelude.{◌≡◌, ◌++◌, length, slice_get, string_bytes, IfOk, OnOk, List, ℕ, option_map, map, ◌||◌, ◌∷◌, [], true};
 ghost use Rattle.std.specs.Option.{option_copied};
 ghost use Rattle.std.specs.Iterator.{YieldsFirstRef, item_count};
 ghost use Rattle.cs_index.specs.Cited.{are_ascending, texts_of, is_names_section, IsNameTable, IsOrderOf, with_ids, name_in, id_in, borrowed_names};
@@ -124,6 +124,17 @@ impl<'a> Texts<'a> {
         ensures { result ≡ texts_of section.now }
     {
         Texts { section }
+    }
+
+    /// Appends a copy of each string.
+    pub fn append_to(self, alloc: Global, copies: &mut Vec<String>) -> Result<(), AllocError>
+        ensures { OnOk result (map string_bytes copies.new.items ≡
+            map string_bytes copies.old.items ++ self.entry) }
+    {
+        'texts: for text in self {
+            copies.push(String::from_str(alloc, text)?)?;
+        }
+        Ok(())
     }
 }
 

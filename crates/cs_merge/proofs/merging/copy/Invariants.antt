@@ -1,5 +1,0 @@
-use Rattle.std.proofs.Common.{◌≡◌, ◌++◌, map, string_bytes}
-use Rattle.cs_merge.proofs.merging.copy.Given as goal
-
-abbrev pub invariant-texts : goal.invariant-texts
-invariant-texts l = map string_bytes l.copies.items ++ l.text-iterator ≡ map string_bytes l.initial.copies.items ++ l.fn.texts

@@ -37,7 +37,6 @@ pub use Rattle.cs_index.specs.Prefixes.{IsPrefix}
 pub use Rattle.cs_index.specs.Roundtrip.{IsIndexWith, parts_written}
 pub use Rattle.cs_index.specs.Rows.{HaveWidth, IsLeft, IsReadOn, IsRowOf, LacksId, RowSoFar, column, have_id, lists_are_whole}
 pub use Rattle.cs_index.specs.SectionPieces.{AreNamesTested, ArePathsRead, IsNoSection, IsTextRun, IsWindow, are_entries}
-pub use Rattle.cs_index.specs.SectionSlices.{AreSlicesOf, borrowed_sections}
 pub use Rattle.cs_index.specs.SectionsInvariant.{entry_from, first_of, lists_at}
 pub use Rattle.cs_index.specs.Sending.{IsSentOn, all_sent, bytes_in, with_bytes}
 pub use Rattle.cs_index.specs.ShortDeltas.{are_short, is_first, second_bytes}

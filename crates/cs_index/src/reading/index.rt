@@ -9,7 +9,7 @@ use crate::reading::entries::{Entry, has_entries, has_offsets};
 use crate::reading::list_reader::postings_of;
 use crate::reading::name_table::{NameTable, Texts};
 use crate::reading::postings::Postings;
-use crate::reading::section_offsets::split;
+use crate::reading::section_offsets::offsets_in_bytes;
 use crate::reading::tables::Tables;
 use std::alloc::{AllocError, Global};
 use std::marker::Model;
@@ -40,16 +40,16 @@ impl<'a> Index<'a> {
         ensures decodes { IfOk result (DecodesAs bytes.now) }
         ensures fails { IfErr result (Fails bytes.now) }
     {
-        let slices = match split(bytes) {
-            Ok(slices) => slices,
+        let starts = match offsets_in_bytes(bytes) {
+            Ok(starts) => starts,
             Err(fault) => return Err(fault),
         };
-        let room = slices.postings.len();
+        let room = starts.name_index - starts.postings;
         match test_sections(
-            slices.paths,
-            slices.names,
-            slices.name_index,
-            slices.list_index,
+            &bytes[starts.paths..starts.names],
+            &bytes[starts.names..starts.postings],
+            &bytes[starts.name_index..starts.list_index],
+            &bytes[starts.list_index..starts.trailer],
             room,
         ) {
             Ok(()) => Index::reopen(bytes),

@@ -4,8 +4,7 @@ ghost use Rattle.cs_index.specs.Cited.{KeepsStore, OpensAsTables};
 
 use crate::fault::IndexFault;
 use crate::reading::index::test_sections;
-use crate::reading::section_offsets::SectionOffsets;
-use crate::reading::stored::StoredIndex;
+use crate::reading::section_offsets::{SectionOffsets, find_offsets};
 use crate::reading::tables::Tables;
 use cs_tree::{IoFault, Store, read_part};
 use std::alloc::Global;
@@ -48,11 +47,8 @@ impl OldIndex {
         ensures opens { IfSome (S.model store.old) (λ bytes. IfOk result (OpensAsTables bytes)) }
         ensures store { KeepsStore S.model S.size S.failed store.old store.new result }
     {
-        // The sections are tested in pieces before they are read as a whole, so a damaged index of
-        // any length is refused without much memory. They are tested again, since the store may
-        // have changed.
-        let starts = match StoredIndex::open(alloc, store)? {
-            Ok(index) => index.starts,
+        let starts = match find_offsets(alloc, store)? {
+            Ok(starts) => starts,
             Err(fault) => return Ok(Err(fault)),
         };
         let paths = read_part(alloc, store, starts.paths, starts.names - starts.paths)?;

@@ -1,6 +1,6 @@
-// The sections of an index: their offsets in a store, and slices of the bytes in memory.
-ghost use Rattle.std.specs.Prelude.{◌≡◌, ◌+◌, ◌-◌, ◌≤◌, ◌<◌, ◌^◌, List, ℕ, length, IfOk, IfErr, IfSome, Err, IsTrue, Ok, MatchResult};
-ghost use Rattle.cs_index.specs.Cited.{KeepsStore, AreBytes, part_of, are_section_offsets, split_of, AreDisorderedOffsets, AreTrailerOffsets, AreAscendingOffsets, IsSplitAt, is_tail, AreSlicesOf, borrowed_sections};
+// The offsets of the sections of an index, in a store or in memory.
+ghost use Rattle.std.specs.Prelude.{◌≡◌, ◌+◌, ◌-◌, ◌≤◌, ◌<◌, ◌^◌, List, ℕ, length, IfOk, IfErr, IfSome, IsTrue};
+ghost use Rattle.cs_index.specs.Cited.{KeepsStore, AreBytes, part_of, are_section_offsets, AreDisorderedOffsets, AreTrailerOffsets, AreAscendingOffsets, IsSplitAt, is_tail};
 
 use crate::fault::IndexFault;
 use crate::format::{MAGIC, TRAILER_LEN, TRAILER_MAGIC};
@@ -19,17 +19,6 @@ pub(crate) struct SectionOffsets {
     pub(crate) trailer: usize,
 }
 
-/// The sections of an index, borrowed from its bytes, and their offsets.
-#[derive(Drop)]
-pub(crate) struct SectionSlices<'a> {
-    pub(crate) paths: &'a [u8],
-    pub(crate) names: &'a [u8],
-    pub(crate) postings: &'a [u8],
-    pub(crate) name_index: &'a [u8],
-    pub(crate) list_index: &'a [u8],
-    pub(crate) starts: SectionOffsets,
-}
-
 /// Reads the section offsets from the first 16 and the last 36 bytes.
 pub(crate) fn find_offsets<S: Store>(
     alloc: Global,
@@ -46,29 +35,16 @@ pub(crate) fn find_offsets<S: Store>(
     Ok(offsets_of(&header, &tail, len))
 }
 
-/// Splits the bytes of an index into its sections.
-pub(crate) fn split<'a>(bytes: &'a [u8]) -> Result<SectionSlices<'a>, IndexFault>
-    ensures value { MatchResult result
-        (λ slices. split_of bytes.now ≡ Ok (borrowed_sections slices)) (λ fault. split_of bytes.now
-        ≡ Err fault) }
-    ensures at { IfOk result (AreSlicesOf bytes.now) }
-    ensures names_bound { IfOk result (λ slices. length slices.name_index.now < 2 ^ 32) }
-    ensures lists_bound { IfOk result (λ slices. length slices.list_index.now < 2 ^ 32) }
+/// The section offsets of the bytes of an index.
+pub(crate) fn offsets_in_bytes(bytes: &[u8]) -> Result<SectionOffsets, IndexFault>
+    ensures slices { IsSplitAt bytes.now result }
+    ensures order { IfOk result AreAscendingOffsets }
+    ensures within { IfOk result (λ s. s.trailer ≤ length bytes.now) }
 {
     let len = bytes.len();
     let header = &bytes[..len.min(MAGIC.len())];
     let tail = &bytes[len.saturating_sub(TRAILER_LEN)..];
-    match offsets_of(header, tail, len) {
-        Ok(starts) => Ok(SectionSlices {
-            paths: &bytes[starts.paths..starts.names],
-            names: &bytes[starts.names..starts.postings],
-            postings: &bytes[starts.postings..starts.name_index],
-            name_index: &bytes[starts.name_index..starts.list_index],
-            list_index: &bytes[starts.list_index..starts.trailer],
-            starts,
-        }),
-        Err(fault) => Err(fault),
-    }
+    offsets_of(header, tail, len)
 }
 
 /// The section offsets of an index of `len` bytes, by its first and last bytes.

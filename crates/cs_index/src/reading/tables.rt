@@ -4,7 +4,7 @@ ghost use Rattle.cs_index.specs.Cited.{max_ids, ListEntry, Parts, entry_of, open
 
 use crate::reading::entries::{ENTRY_LEN, Entry, entry_with, nth_entry};
 use crate::reading::name_table::{NameTable, Texts};
-use crate::reading::section_offsets::{SectionOffsets, split};
+use crate::reading::section_offsets::{SectionOffsets, offsets_in_bytes};
 use std::marker::Model;
 
 /// The paths, the names and both tables of an index, borrowed from an `Index` or an `OldIndex`.
@@ -41,13 +41,13 @@ impl<'a> Tables<'a> {
         requires opened { IsOk (opening bytes.now) }
         ensures { (parts : Parts) → opening bytes.now ≡ Ok parts → TablesIn bytes.now result parts }
     {
-        match split(bytes) {
-            Ok(slices) => Tables {
-                paths: slices.paths,
-                names: slices.names,
-                name_index: slices.name_index,
-                list_index: slices.list_index,
-                starts: slices.starts,
+        match offsets_in_bytes(bytes) {
+            Ok(starts) => Tables {
+                paths: &bytes[starts.paths..starts.names],
+                names: &bytes[starts.names..starts.postings],
+                name_index: &bytes[starts.name_index..starts.list_index],
+                list_index: &bytes[starts.list_index..starts.trailer],
+                starts,
             },
             // The bytes have opened.
             Err(_) => unreachable!(),

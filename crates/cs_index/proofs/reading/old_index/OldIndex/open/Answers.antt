@@ -1,20 +1,33 @@
-use Rattle.std.proofs.Common.{◌≡◌, ◌-◌, ◌∙◌, sym, subst, List, ℕ}
+use Rattle.std.proofs.Common.{◌≡◌, ◌-◌, ◌∙◌, sym, subst, List, ℕ, Result}
+use Rattle.std.specs.Prelude.{IfOk}
+use Rattle.cs_tree.specs.ByteList.{AreBytes}
 use Rattle.cs_tree.specs.Store.{part_of}
-use Rattle.cs_index.specs.Tables.{OpensAs, OpensAsTables}
+use Rattle.cs_index.specs.OpenedParts.{Parts}
+use Rattle.cs_index.specs.Opening.{parts_of}
+use Rattle.cs_index.specs.Stored.{sections_at}
+use Rattle.cs_index.specs.StoredOpening.{AreAscendingOffsets, IsSplitAt, with_lists}
+use Rattle.cs_index.specs.Tables.{OpensAsTables, TableParts, TablesIn, tables_of}
+use Rattle.cs_index.specs.declared.fault.IndexFault.{IndexFault}
+use Rattle.cs_index.specs.declared.reading.section_offsets.SectionOffsets.{SectionOffsets}
 use Rattle.cs_index.proofs.stored.ListPieces.{shown}
-use Rattle.cs_index.proofs.stored.SectionReads.{if_modelled}
-use Rattle.cs_index.proofs.stored.TableSections.{opened_parts, tables_fail, tables_stand}
+use Rattle.cs_index.proofs.stored.SectionReads.{if_modelled, if_some_map, not_opened}
+use Rattle.cs_index.proofs.stored.TableSections.{tables_stand, tested_fail, tested_open}
 use Rattle.cs_index.proofs.reading.old_index.OldIndex.open.Goals as goal
 use Rattle.cs_index.proofs.reading.old_index.OldIndex.open.Goals.{in-Ok-test_sections, in-Err-test_sections}
+
+pub returns-in-Err-clause-opens : goal.returns-in-Err-clause-opens
+returns-in-Err-clause-opens g c =
+    if_some_map _ _ (g.S.Store.model c.args.store.now)
+    (λ bytes is. not_opened bytes c.in-Err.fault (subst (IsSplitAt bytes) c.in-Err.is is)) c.in_ok-starts.ensures.slices
 
 pub returns-clause-opens : goal.returns-clause-opens
 returns-clause-opens g c =
     if_modelled (g.S.Store.model c.args.store.now) _
     (λ bytes m.
-    let s = c.index.inside.starts in
-    let found = opened_parts bytes _ c.in-Ok.is c.index.view_is
-    (shown (λ b. OpensAs b c.in_ok-index.field-0) (g.S.Store.model c.args.store.now) bytes m c.in_ok-index.ensures.opens) in
-    let m1 = c.in_ok-index.ensures.store.0 ∙ m in
+    let s : SectionOffsets = c.in-Ok.starts in
+    let order : AreAscendingOffsets s = subst (λ (r : Result SectionOffsets IndexFault). IfOk r AreAscendingOffsets) c.in-Ok.is c.in_ok-starts.ensures.order in
+    let at = subst (IsSplitAt bytes) c.in-Ok.is (shown (λ b. IsSplitAt b c.in_ok-starts.field-0) _ bytes m c.in_ok-starts.ensures.slices) in
+    let m1 = c.in_ok-starts.ensures.store.0 ∙ m in
     let m2 = c.read_part.ensures.store.0 ∙ m1 in
     let m3 = c.read_part-2.ensures.store.0 ∙ m2 in
     let m4 = c.read_part-3.ensures.store.0 ∙ m3 in
@@ -28,14 +41,20 @@ returns-clause-opens g c =
     c.in_ok-name_index.ensures.bytes in
     let entries = shown (λ b. l ≡ part_of b s.list_index (s.trailer - s.list_index)) _ bytes m4
     c.in_ok-list_index.ensures.bytes in
+    let lists : List ℕ = part_of bytes s.postings (s.name_index - s.postings) in
+    let same : with_lists c.deref.result.now c.deref-2.result.now c.deref-3.result.now c.deref-4.result.now lists ≡ sections_at bytes s =
+    λ t. with_lists ((c.deref.ensures.value ∙ paths) t) ((c.deref-2.ensures.value ∙ names) t)
+    ((c.deref-3.ensures.value ∙ numbers) t) ((c.deref-4.ensures.value ∙ entries) t) lists in
     elim c.match-test_sections.branch [
       | in-Ok-test_sections w ↦
-          subst (OpensAsTables bytes) (sym w.answer-is)
-          (found.0, tables_stand bytes p n i l s c.index.invariant.1 _ _ found.0 found.1 paths names numbers entries)
+          let parts : Parts = parts_of (sections_at bytes s) in
+          let opens = tested_open bytes s order at _ _ _ _ same w.in-Ok-test_sections.ensures.read in
+          subst (OpensAsTables bytes) (sym w.answer-is) (
+            parts,
+            subst (λ (t : TableParts). TablesIn bytes t parts) (λ t. tables_of (sym paths t) (sym names t) (sym entries t) s)
+                (tables_stand bytes s order at parts (shown AreBytes _ bytes m c.in_ok-starts.ensures.bytes) opens),
+          )
       | in-Err-test_sections w ↦
           subst (OpensAsTables bytes) (sym w.answer-is)
-          (tables_fail bytes c.deref.result.now c.deref-2.result.now c.deref-3.result.now c.deref-4.result.now s
-          c.index.invariant.1 _ _ found.0 found.1 (c.deref.ensures.value ∙ paths) (c.deref-2.ensures.value ∙ names)
-          (c.deref-3.ensures.value ∙ numbers) (c.deref-4.ensures.value ∙ entries) w.in-Err-test_sections.fault
-          w.in-Err-test_sections.ensures.fault)
+          (tested_fail bytes s order at _ _ _ _ same w.in-Err-test_sections.fault w.in-Err-test_sections.ensures.fault)
     ])

@@ -3,7 +3,7 @@ use Rattle.std.specs.Prelude.{min}
 use Rattle.std.proofs.lemmas.Bool.{cases_lt}
 use Rattle.cs_tree.specs.Store.{part_of}
 use Rattle.cs_index.proofs.stored.SectionOffsets.{header_part, tail_part}
-use Rattle.cs_index.proofs.reading.section_offsets.split.Goals as goal
+use Rattle.cs_index.proofs.reading.section_offsets.offsets_in_bytes.Goals as goal
 
 header : (bytes : List ℕ) (n : ℕ) → n ≡ min (length bytes) 16 → take n bytes ≡ part_of bytes 0 16
 header bytes n is = header_part bytes n (elim (cases_lt (length bytes) 16)
@@ -12,12 +12,7 @@ header bytes n is = header_part bytes n (elim (cases_lt (length bytes) 16)
 tail : (bytes : List ℕ) (k : ℕ) → k ≡ length bytes - 36 → take (length bytes - k) (drop k bytes) ≡ part_of bytes (length bytes - 36) 36
 tail bytes k is = tail_part bytes k (omega (arith, is)) ∙ ap (λ n. part_of bytes n 36) is
 
-pub returns-in-Ok-clause-value : goal.returns-in-Ok-clause-value
-returns-in-Ok-clause-value c =
-    (c.in-Ok.ensures.slices c.args.bytes.now refl (header c.args.bytes.now c.min.result c.min.ensures)
-    (tail c.args.bytes.now c.saturating_sub.result c.saturating_sub.ensures)).0
-
-pub returns-in-Err-clause-value : goal.returns-in-Err-clause-value
-returns-in-Err-clause-value c =
-    c.in-Err.ensures.slices c.args.bytes.now refl (header c.args.bytes.now c.min.result c.min.ensures)
+pub returns-clause-slices : goal.returns-clause-slices
+returns-clause-slices c =
+    c.offsets_of.ensures.slices c.args.bytes.now refl (header c.args.bytes.now c.min.result c.min.ensures)
     (tail c.args.bytes.now c.saturating_sub.result c.saturating_sub.ensures)

@@ -42,7 +42,7 @@ pub use Rattle.cs_index.specs.Sending.{IsSentOn, all_sent, bytes_in, with_bytes}
 pub use Rattle.cs_index.specs.ShortDeltas.{are_short, is_first, second_bytes}
 pub use Rattle.cs_index.specs.Stored.{DecodesOrFails, StandsIn, sections_at}
 pub use Rattle.cs_index.specs.StoredEntries.{AreListed, HasEntries, entry_read, trigrams_listed}
-pub use Rattle.cs_index.specs.StoredLists.{GivesBelow, Holds, IsReady, IsSection, SkipsBelow, ids_left, with_piece}
+pub use Rattle.cs_index.specs.StoredLists.{GivesBelow, Holds, IsReady, SkipsBelow, ids_left, with_piece}
 pub use Rattle.cs_index.specs.StoredOpening.{AreAscendingOffsets, AreDisorderedOffsets, AreTrailerOffsets, IsSplitAt, is_tail, with_lists}
 pub use Rattle.cs_index.specs.Tables.{AreValidTables, OpensAs, OpensAsTables, TablesIn, lists_room}
 pub use Rattle.cs_index.specs.ValidParts.{AreValidParts}

@@ -1,22 +1,22 @@
 -- The entries of a list index that is read from a store by position.
 -- docs/FORMAT.md, "The index as it is read".
-use Rattle.std.specs.Prelude.{◌≡◌, ℕ, ◌/◌, true, ◌&&◌, List, length, map, Some}
+use Rattle.std.specs.Prelude.{◌≡◌, ◌≤◌, ℕ, true, ◌&&◌, List, length, map, Some}
 use Rattle.std.specs.List.{AllByRecursion}
-use Rattle.cs_tree.specs.Store.{part_of}
 use Rattle.cs_trigram.specs.Trigram.{has}
 use Rattle.cs_trigram.specs.declared.queries.Query.{Query}
 use Rattle.cs_index.specs.Answerable.{mentions}
 use Rattle.cs_index.specs.Encoding.{ListEntry}
 use Rattle.cs_index.specs.Opening.{entries_in, rises}
 use Rattle.cs_index.specs.Postings.{entry_of, has_entry}
+use Rattle.cs_index.specs.Stored.{sections_at}
 use Rattle.cs_index.specs.declared.reading.entries.Entry.{Entry}
-use Rattle.cs_index.specs.declared.reading.entries.StoredEntries.{StoredEntries}
+use Rattle.cs_index.specs.declared.reading.section_offsets.SectionOffsets.{SectionOffsets}
 
--- The bytes have this list index where the entries stand.
-pub record HasEntries (bytes : List ℕ) (s : StoredEntries) (list_index : List ℕ) : Type 0 where
-  pub there : part_of bytes s.start (length list_index) ≡ list_index
-  pub count : s.count ≡ length list_index / 11
-  pub rise : rises (entries_in list_index) ≡ true
+-- The list index of the bytes has these entries, and their trigrams are ascending.
+pub record HasEntries (bytes : List ℕ) (s : SectionOffsets) (entries : List ListEntry) : Type 0 where
+  pub are : entries ≡ entries_in (sections_at bytes s).list_index
+  pub within : s.trailer ≤ length bytes
+  pub rise : rises entries ≡ true
 
 -- the entry that is read
 abbrev pub entry_read : Entry → ListEntry

@@ -6,8 +6,6 @@ use Rattle.cs_tree.specs.Store.{part_of}
 use Rattle.cs_index.specs.AscendingIds.{BeginsFrom, max_ids}
 use Rattle.cs_index.specs.ListDecoding.{HaveVarint}
 use Rattle.cs_index.specs.PostingLists.{Ids, onto, read_ids}
-use Rattle.cs_index.specs.OpenedParts.{Parts}
-use Rattle.cs_index.specs.declared.reading.stored_list.ListSection.{ListSection}
 use Rattle.cs_index.specs.declared.reading.stored_list.StoredList.TheInside.{Inside}
 
 -- A list that is read in part: the offset of its next byte in the store, the end of the section, and the bytes that
@@ -80,13 +78,3 @@ pub record IsStoredList (s : Inside) : Type 0 where
   pub room : 5 ≤ s.size
   pub ids : s.decoder.next ≤ s.decoder.name_count
   pub bound : s.decoder.name_count < max_ids
-
--- The section is short, and so are its ids.
-pub record IsSection (s : ListSection) : Type 0 where
-  pub short : s.start + s.room < 2 ^ 63
-  pub names : s.name_count < max_ids
-
--- The parts have the posting lists of this section of the bytes.
-pub record HasLists (bytes : List ℕ) (s : ListSection) (parts : Parts) : Type 0 where
-  pub postings : parts.postings ≡ part_of bytes s.start s.room
-  pub names : length parts.names ≡ s.name_count

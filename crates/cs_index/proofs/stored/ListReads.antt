@@ -125,13 +125,12 @@ list_read bytes tables parts stands order entry position found fits read is from
     let inside : k ≤ length read.bytes = elim enough [ inl all ↦ omega (arith, all, fits, from) | inr most ↦ omega (arith, most, from) ] in
     let stand : piece ≡ part_of bytes (start + entry.offset) (length piece) = part_after bytes read.bytes read.at k inside is
     ∙ ap (λ n. part_of bytes n (length piece)) (let z : read.at + k ≡ start + entry.offset = omega (arith, from) in z) in
-    let lists = stored_lists bytes _ parts stands.stands order in
     let same : entry_read entry ≡ e = only (found ∙ ap (λ es. slice_get es position) stands.entries ∙ there) in
     subst (λ (d : ListEntry). known_ids tables read d ≡ ids_read parts d) same
     (ap (λ (ns : List (List ℕ)). list_in piece (length ns) (entry_read entry)) stands.names
     ∙ list_there bytes piece start room (length parts.names) (entry_read entry) stand fits (omega (arith, within, l, from, inside))
     (elim enough [ inl all ↦ inl (omega (arith, all, l, from, inside)) | inr most ↦ inr (omega (arith, most, l, from, inside)) ])
-    ∙ ap (λ p. read_list p (length parts.names) (entry_read entry)) (sym lists.postings))
+    ∙ ap (λ p. read_list p (length parts.names) (entry_read entry)) (sym (stored_lists bytes _ parts stands.stands)))
   where
     only : {d e : ListEntry} → Some d ≡ Some e → d ≡ e
     only is = cc

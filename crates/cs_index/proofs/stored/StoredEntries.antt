@@ -1,7 +1,7 @@
 -- Entries that are read from a store by position.
-use Rattle.std.proofs.Common.{◌≡◌, ℕ, zero, suc, ◌+◌, ◌*◌, ◌<◌, ◌≤◌, cond, List, [], ◌∷◌, ◌++◌, length, take, drop, get_or, Option, None, Some, refl, sym, ap, subst, ◌∙◌, arith, append_assoc, drop-cons, drop-drop, length-drop, length-take}
+use Rattle.std.proofs.Common.{◌≡◌, ℕ, zero, suc, true, ◌+◌, ◌-◌, ◌*◌, ◌/◌, ◌<◌, ◌≤◌, cond, List, [], ◌∷◌, ◌++◌, length, take, drop, get_or, Option, None, Some, refl, sym, ap, subst, ◌∙◌, arith, append_assoc, drop-cons, drop-drop, length-drop, length-take}
 use Rattle.cs_tree.proofs.GatherLemmas.{all-append}
-use Rattle.std.proofs.lemmas.List.{append-nil, get_or-drop, get_or-take, map-append, take_all, take_more}
+use Rattle.std.proofs.lemmas.List.{append-nil, get_or-drop, get_or-take, length-take-le, map-append, take_all, take_more}
 use Rattle.std.proofs.lemmas.List.Elements.{filter-append}
 use Rattle.std.specs.List.{AllByRecursion}
 use Rattle.std.specs.Option.{is_some}
@@ -14,9 +14,10 @@ use Rattle.cs_index.specs.declared.reading.entries.Entry.{Entry}
 use Rattle.std.specs.Int.{from_be_bytes, w32}
 use Rattle.cs_tree.specs.Store.{part_of}
 use Rattle.cs_index.specs.Encoding.{ListEntry}
-use Rattle.cs_index.specs.Opening.{entry_at, number_at, trigram_at}
+use Rattle.cs_index.specs.Opening.{entries_in, entry_at, number_at, rises, trigram_at}
 use Rattle.cs_index.specs.StoredEntries.{entry_read, trigrams_listed, HasEntries}
-use Rattle.cs_index.specs.declared.reading.entries.StoredEntries.{StoredEntries}
+use Rattle.cs_index.specs.declared.reading.section_offsets.SectionOffsets.{SectionOffsets}
+use Rattle.cs_index.proofs.decoding.EntryTables.{entry_found, entry_none, later}
 
 -- ---- numbers of a part
 
@@ -72,19 +73,39 @@ filled bytes buf at n is within =
 
 -- ---- the entries of a list index
 
-module _ (bytes list_index : List ℕ) (s : StoredEntries) (has : HasEntries bytes s list_index) (k : ℕ) (h : k < s.count) where
-  pub entry_within : s.start + 11 * k + 11 ≤ length bytes
-  entry_within =
-      let l = ap length has.there in
-      let t = length-take (length list_index) (drop s.start bytes) in
-      let d = length-drop s.start bytes in
-      let c = has.count in
-      omega (arith, l, t, d, c, h)
+module _ (bytes : List ℕ) (s : SectionOffsets) (es : List ListEntry) (has : HasEntries bytes s es) where
+  abbrev list_index : List ℕ
+  list_index = part_of bytes s.list_index (s.trailer - s.list_index)
 
-  pub entry_there : entry_at bytes (s.start + 11 * k) ≡ entry_at list_index (11 * k)
-  entry_there =
-      let c = has.count in
-      sym (entry_part bytes s.start (length list_index) (11 * k) (omega (arith, c, h))) ∙ ap (λ bs. entry_at bs (11 * k)) has.there
+  abbrev count : ℕ
+  count = (s.trailer - s.list_index) / 11
+
+  long : count ≡ length list_index / 11
+  long = ap (λ n. n / 11) (sym (length-take-le (s.trailer - s.list_index) (drop s.list_index bytes)
+      (omega (arith, has.within, length-drop s.list_index bytes))))
+
+  rise : rises (entries_in list_index) ≡ true
+  rise = ap rises (sym has.are) ∙ has.rise
+
+  there : (k : ℕ) → k < count → entry_at bytes (s.list_index + 11 * k) ≡ entry_at list_index (11 * k)
+  there k h = sym (entry_part bytes s.list_index (s.trailer - s.list_index) (11 * k) (omega (arith, h)))
+
+  pub found_there : (g k : ℕ) (e : Entry) → k < count → entry_read e ≡ entry_at bytes (s.list_index + 11 * k) →
+      e.trigram ≡ g → Some (entry_read e) ≡ entry_of es g
+  found_there g k e h is same =
+      let at = is ∙ there k h in
+      ap Some at ∙ sym (ap (λ all. entry_of all g) has.are
+      ∙ entry_found list_index g k rise (omega (arith, h, long)) (sym (ap (λ (e : ListEntry). e.trigram) at) ∙ same))
+
+  pub none_there : (g : ℕ) → ((k : ℕ) → k < count → trigram_at bytes (s.list_index + 11 * k) ≡ g → ⊥) → None ≡ entry_of es g
+  none_there g none = sym (ap (λ all. entry_of all g) has.are
+      ∙ entry_none list_index g (λ k h e. none k (omega (arith, h, long))
+      (ap (λ (e : ListEntry). e.trigram) (there k (omega (arith, h, long))) ∙ e)))
+
+  pub later_there : (j k : ℕ) → j < count → k < count →
+      trigram_at bytes (s.list_index + 11 * j) < trigram_at bytes (s.list_index + 11 * k) → j < k
+  later_there j k h l less = later list_index rise j k (omega (arith, h, long))
+      (omega (arith, ap (λ (e : ListEntry). e.trigram) (there j h), ap (λ (e : ListEntry). e.trigram) (there k l), less))
 
 -- ---- the entries that are found are listed
 

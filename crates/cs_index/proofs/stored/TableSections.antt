@@ -60,7 +60,7 @@ parts_valid bytes tables parts are order is = record {
 }
   where
     long : length parts.postings ≡ lists_room tables
-    long = ap length (stored_lists bytes _ parts is.stands order).postings ∙ lists_long bytes tables.starts order is.stands.within
+    long = ap length (stored_lists bytes _ parts is.stands) ∙ lists_long bytes tables.starts order is.stands.within
 
 -- ---- the tables of an index in memory
 

@@ -2,16 +2,16 @@
 // query's form is evaluated over windows of ids, so that each posting list is read once.
 ghost use Rattle.std.specs.Prelude.{◌≡◌, ◌<◌, ◌≤◌, ◌+◌, ◌-◌, ◌⊎◌, ◌^◌, ◌++◌, ℕ, List, Some, map, take, true, false, filter, length, slice_index_or, IfOk, IfErr, OnOk, ◌*◌, ◌||◌};
 ghost use Rattle.std.specs.List.{AllByRecursion, AllZip, range_with_len, list_any};
-ghost use Rattle.cs_index.specs.Cited.{KeepsStore, part_of, has, Ascends, entries_in, Parts, read_list, IsListFault, candidates_of, AreCandidates, max_ids, is_answerable, mentions, candidates_from, AreOnPage, IsForm, number_matches, lists_are_whole, have_id, IsLeft, IsReadOn, StandsIn, AreAscendingOffsets, AreListed, entry_read, trigrams_listed, HasEntries, Holds, IsSection, ids_left};
+ghost use Rattle.cs_index.specs.Cited.{KeepsStore, has, Ascends, ListEntry, Parts, read_list, IsListFault, candidates_of, AreCandidates, max_ids, is_answerable, mentions, candidates_from, AreOnPage, IsForm, number_matches, lists_are_whole, have_id, IsLeft, IsReadOn, StandsIn, AreAscendingOffsets, AreListed, entry_read, trigrams_listed, HasEntries, Holds, ids_left, sections_at};
 
 use crate::fault::IndexFault;
-use crate::reading::entries::{ENTRY_LEN, Entry, StoredEntries};
+use crate::reading::entries::{Entry, find_entry};
 use crate::reading::form::{Form, NOTHING, form_of};
 use crate::reading::index::Index;
 use crate::reading::rows::{IdWindow, next_start, rarest_list, row_at, rows_of};
 use crate::reading::section_offsets::SectionOffsets;
 use crate::reading::stored::StoredIndex;
-use crate::reading::stored_list::{ListSection, StoredList};
+use crate::reading::stored_list::StoredList;
 use cs_tree::{IoFault, MemStore, Store};
 use cs_trigram::Query;
 use std::alloc::{AllocError, Global};
@@ -111,19 +111,10 @@ fn candidates_in<S: Store>(
         IfOk result (AreOnPage page query.now parts) }
     ensures store { KeepsStore S.model S.size S.failed store.old store.new result }
 {
-    let entries = StoredEntries {
-        start: starts.list_index,
-        count: (starts.trailer - starts.list_index) / ENTRY_LEN,
-    };
-    let section = ListSection {
-        start: starts.postings,
-        room: starts.name_index - starts.postings,
-        name_count,
-    };
-    let listed = listed_entries(alloc, store, &entries, query)?;
+    let listed = listed_entries(alloc, store, starts, query)?;
     let trigrams = trigrams_of(alloc, &listed)?;
     let form = form_of(alloc, &trigrams, query)?;
-    let mut lists = lists_of(alloc, store, &section, &listed)?;
+    let mut lists = lists_of(alloc, store, starts, name_count, &listed)?;
     let all = IdWindow {
         start: page.from.min(name_count),
         end: name_count,
@@ -152,14 +143,15 @@ fn trigrams_of(alloc: Global, entries: &[Entry]) -> Result<Vec<u32>, AllocError>
 fn lists_of<S: Store>(
     alloc: Global,
     store: &mut S,
-    section: &ListSection,
+    starts: &SectionOffsets,
+    name_count: u32,
     entries: &[Entry],
 ) -> Result<Vec<StoredList>, IoFault>
-    requires { IsSection section.now }
-    ensures lists { (bytes : List ℕ) → S.model store.old ≡ Some bytes → IfOk result (λ lists.
-        map (ids_left bytes) lists.items ≡ map (λ e.
-        read_list (part_of bytes section.now.start section.now.room)
-        section.now.name_count (entry_read e)) entries.now) }
+    requires order { AreAscendingOffsets starts.now }
+    requires few { name_count < max_ids }
+    ensures lists { (bytes : List ℕ) → S.model store.old ≡ Some bytes →
+        IfOk result (λ lists. map (ids_left bytes) lists.items ≡ map (λ e.
+        read_list (sections_at bytes starts.now).postings name_count (entry_read e)) entries.now) }
     ensures count { IfOk result (λ lists. length lists.items ≡ length entries.now) }
     ensures holds { (bytes : List ℕ) → S.model store.old ≡ Some bytes →
         IfOk result (λ lists. AllByRecursion (Holds bytes) lists.items) }
@@ -168,7 +160,7 @@ fn lists_of<S: Store>(
     let size = piece_size(entries.len());
     let mut lists = Vec::with_capacity(alloc, entries.len())?;
     for entry in entries {
-        lists.push(StoredList::open(alloc, store, section, entry, size)?)?;
+        lists.push(StoredList::open(alloc, store, starts, name_count, entry, size)?)?;
     }
     Ok(lists)
 }
@@ -292,20 +284,20 @@ fn finish_all<S: Store>(store: &mut S, mut lists: Vec<StoredList>) -> Result<boo
 pub(crate) fn listed_entries<S: Store>(
     alloc: Global,
     store: &mut S,
-    entries: &StoredEntries,
+    starts: &SectionOffsets,
     query: &Query,
 ) -> Result<Vec<Entry>, IoFault>
-    requires { entries.now.start + 11 * entries.now.count < 2 ^ 63 }
-    ensures listed { (bytes : List ℕ) → S.model store.old ≡ Some bytes → (list_index : List ℕ) →
-        HasEntries bytes entries.now list_index →
-        IfOk result (λ listed. AreListed query.now (entries_in list_index) listed.items) }
+    requires { AreAscendingOffsets starts.now }
+    ensures listed { (bytes : List ℕ) → S.model store.old ≡ Some bytes → (entries : List ListEntry) →
+        HasEntries bytes starts.now entries →
+        IfOk result (λ listed. AreListed query.now entries listed.items) }
     ensures ascend { IfOk result (λ listed. Ascends (trigrams_listed listed.items)) }
     ensures store { KeepsStore S.model S.size S.failed store.old store.new result }
 {
     let trigrams = mentioned_trigrams(alloc, query)?;
     let mut listed = Vec::new(alloc);
     for trigram in &trigrams {
-        if let Some(entry) = entries.find(store, *trigram)? {
+        if let Some(entry) = find_entry(store, starts, *trigram)? {
             listed.push(entry)?;
         }
     }

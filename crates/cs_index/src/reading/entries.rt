@@ -1,9 +1,10 @@
 // The name index and the list index, and the entries of a list index in a store, found by their
 // trigrams.
 ghost use Rattle.std.specs.Prelude.{◌≡◌, ◌==◌, ◌≤◌, ◌<◌, ◌+◌, ◌^◌, ◌++◌, [], ◌≢◌, ◌-◌, List, true, false, length, slice_index, IfSome, IfNone, IsTrue, ◌*◌, ◌/◌, ℕ, Some, option_map, slice_get, IfOk};
-ghost use Rattle.cs_index.specs.Cited.{are_entries, has_starts, ListEntry, entries_in, entry_at, trigram_at, is_list_index, is_section, texts_of, rises, KeepsStore, entry_of, entry_read, HasEntries};
+ghost use Rattle.cs_index.specs.Cited.{are_entries, has_starts, ListEntry, entries_in, entry_at, trigram_at, is_list_index, is_section, texts_of, rises, KeepsStore, AreAscendingOffsets, entry_of, entry_read, HasEntries};
 
 use crate::reading::bytes::{read_number, read_trigram};
+use crate::reading::section_offsets::SectionOffsets;
 use cs_tree::{IoFault, Store, fill_at};
 
 /// An entry of a list index: a trigram, the number of its ids, and the offset of its posting list.
@@ -14,46 +15,37 @@ pub(crate) struct Entry {
     pub(crate) offset: u32,
 }
 
-/// Where the entries of a list index stand in a store, and their number.
-#[derive(Drop)]
-pub(crate) struct StoredEntries {
-    pub(crate) start: usize,
-    pub(crate) count: usize,
-}
-
-impl StoredEntries {
-    /// The entry of a trigram, by binary search.
-    pub(crate) fn find<S: Store>(
-        &self,
-        store: &mut S,
-        trigram: u32,
-    ) -> Result<Option<Entry>, IoFault>
-        requires { self.now.start + ENTRY_LEN * self.now.count < 2 ^ 63 }
-        ensures found { (bytes : List ℕ) → S.model store.old ≡ Some bytes → (list_index : List ℕ) →
-            HasEntries bytes self.now list_index → IfOk result (λ found.
-            option_map entry_read found ≡ entry_of (entries_in list_index) trigram) }
-        ensures same { IfOk result (λ found. IfSome found (λ e. e.trigram ≡ trigram)) }
-        ensures store { KeepsStore S.model S.size S.failed store.old store.new result }
-    {
-        let mut low = 0;
-        let mut high = self.count;
-        'halves: while low < high {
-            let middle = low + (high - low) / 2;
-            let entry = read_entry(store, self.start + ENTRY_LEN * middle)?;
-            if entry.trigram == trigram {
-                return Ok(Some(entry));
-            }
-            if entry.trigram < trigram {
-                low = middle + 1;
-            } else {
-                high = middle;
-            }
-        }
-        Ok(None)
-    }
-}
-
 pub(crate) const ENTRY_LEN: usize = 11;
+
+/// Reads the entry of a trigram from the list index of a store, by binary search.
+pub(crate) fn find_entry<S: Store>(
+    store: &mut S,
+    starts: &SectionOffsets,
+    trigram: u32,
+) -> Result<Option<Entry>, IoFault>
+    requires { AreAscendingOffsets starts.now }
+    ensures found { (bytes : List ℕ) → S.model store.old ≡ Some bytes → (entries : List ListEntry) →
+        HasEntries bytes starts.now entries → IfOk result (λ found.
+        option_map entry_read found ≡ entry_of entries trigram) }
+    ensures same { IfOk result (λ found. IfSome found (λ e. e.trigram ≡ trigram)) }
+    ensures store { KeepsStore S.model S.size S.failed store.old store.new result }
+{
+    let mut low = 0;
+    let mut high = (starts.trailer - starts.list_index) / ENTRY_LEN;
+    'halves: while low < high {
+        let middle = low + (high - low) / 2;
+        let entry = read_entry(store, starts.list_index + ENTRY_LEN * middle)?;
+        if entry.trigram == trigram {
+            return Ok(Some(entry));
+        }
+        if entry.trigram < trigram {
+            low = middle + 1;
+        } else {
+            high = middle;
+        }
+    }
+    Ok(None)
+}
 
 /// Whether the numbers are the offsets of `count` strings, the first at `start`, and one more
 /// number. No NUL is searched for: offsets that ascend, each after a NUL, are those of all strings

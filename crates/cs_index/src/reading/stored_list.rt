@@ -1,11 +1,12 @@
 // Posting lists of a store, decoded id by id from pieces of its bytes (Go: `postReader` in
 // index/read.go).
-ghost use Rattle.std.specs.Prelude.{◌≡◌, ◌≤◌, ◌<◌, ◌^◌, ◌+◌, ℕ, Bool, true, List, [], Some, length, take, IfSome, IfNone, IfOk, OnOk, bytes_eq};
-ghost use Rattle.cs_index.specs.Cited.{KeepsStore, part_of, three_bytes, Ids, read_list, BeginsFrom, entry_read, RowSoFar, GivesBelow, Holds, IsReady, SkipsBelow, IsSection, ids_left, with_piece};
+ghost use Rattle.std.specs.Prelude.{◌≡◌, ◌≤◌, ◌<◌, ◌+◌, ℕ, Bool, true, List, [], Some, length, take, IfSome, IfNone, IfOk, OnOk, bytes_eq};
+ghost use Rattle.cs_index.specs.Cited.{KeepsStore, AreAscendingOffsets, max_ids, sections_at, three_bytes, Ids, read_list, BeginsFrom, entry_read, RowSoFar, GivesBelow, Holds, IsReady, SkipsBelow, ids_left, with_piece};
 
 use crate::encoded_run::{extent, marked_extent};
 use crate::reading::entries::Entry;
 use crate::reading::postings::{ListDecoder, Step};
+use crate::reading::section_offsets::SectionOffsets;
 use crate::reading::window::Window;
 use cs_tree::{IoFault, Store};
 use std::alloc::Global;
@@ -16,14 +17,6 @@ pub(crate) const TRIGRAM_LEN: usize = 3;
 
 /// The most bytes of a varint.
 pub(crate) const VARINT_LEN: usize = 5;
-
-/// Where the section of posting lists stands in a store.
-#[derive(Drop)]
-pub(crate) struct ListSection {
-    pub(crate) start: usize,
-    pub(crate) room: usize,
-    pub(crate) name_count: u32,
-}
 
 /// A posting list of a store. Its ids are decoded from a piece of its bytes, and the next piece is
 /// read where fewer bytes are left than a varint may have. So each byte of a list is read once.
@@ -53,26 +46,28 @@ impl StoredList {
     pub(crate) fn open<S: Store>(
         alloc: Global,
         store: &mut S,
-        section: &ListSection,
+        starts: &SectionOffsets,
+        name_count: u32,
         entry: &Entry,
         size: usize,
     ) -> Result<StoredList, IoFault>
-        requires section { IsSection section.now }
+        requires order { AreAscendingOffsets starts.now }
+        requires few { name_count < max_ids }
         requires longest { 8 ≤ size }
         ensures holds { (bytes : List ℕ) → S.model store.old ≡ Some bytes → IfOk result (Holds bytes) }
         ensures ids { (bytes : List ℕ) → S.model store.old ≡ Some bytes →
             IfOk result (λ list. ids_left bytes list
-            ≡ read_list (part_of bytes section.now.start section.now.room) section.now.name_count
-            (entry_read entry.now)) }
+            ≡ read_list (sections_at bytes starts.now).postings name_count (entry_read entry.now)) }
         ensures store { KeepsStore S.model S.size S.failed store.old store.new result }
     {
         let offset = entry.offset as usize;
-        if section.room < offset + TRIGRAM_LEN + 1 {
+        let room = starts.name_index - starts.postings;
+        if room < offset + TRIGRAM_LEN + 1 {
             return Ok(StoredList::ended(alloc, false));
         }
-        let start = section.start + offset;
+        let start = starts.postings + offset;
         let most = TRIGRAM_LEN + VARINT_LEN * (entry.count as usize + 1);
-        let len = (section.room - offset).min(size).min(most);
+        let len = (room - offset).min(size).min(most);
         let mut window = Window::new(alloc, 0);
         window.read(store, start, len)?;
         if !is_list_of(&window.piece, entry.trigram) {
@@ -81,12 +76,12 @@ impl StoredList {
         Ok(StoredList {
             window,
             used: TRIGRAM_LEN,
-            stop: section.start + section.room,
+            stop: starts.name_index,
             size,
             decoder: ListDecoder {
                 left: entry.count,
                 next: 0,
-                name_count: section.name_count,
+                name_count,
             },
             has_ended: false,
             is_whole: false,

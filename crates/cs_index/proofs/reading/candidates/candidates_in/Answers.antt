@@ -11,44 +11,23 @@ use Rattle.cs_index.specs.Form.{IsForm, IsNumberOf, number_matches}
 use Rattle.cs_index.specs.Rows.{have_id, lists_are_whole}
 use Rattle.cs_index.specs.StoredLists.{Holds, ListState, ids_left}
 use Rattle.cs_index.specs.declared.reading.entries.Entry.{Entry}
-use Rattle.cs_index.specs.declared.reading.section_offsets.SectionOffsets.{SectionOffsets}
-use Rattle.cs_index.specs.Encoding.{ListEntry}
 use Rattle.cs_index.specs.Opening.{rises}
 use Rattle.cs_index.specs.StoredEntries.{AreListed, trigrams_listed}
-use Rattle.cs_index.specs.StoredOpening.{AreAscendingOffsets}
-use Rattle.cs_index.proofs.decoding.DecodableBytesOpen.{rise_from, Rise}
 use Rattle.cs_index.proofs.candidates.MentionedLists.{all_left, ids_are, whole_answers}
 use Rattle.cs_index.proofs.candidates.PageLemmas.{page_of}
 use Rattle.cs_index.proofs.candidates.WindowRows.{all_held, taken_back, whole_alike}
-use Rattle.cs_index.proofs.stored.ListSections.{entries_are, list_index, list_read, listed_read, stored_entries, stored_lists, stored_rise}
+use Rattle.cs_index.proofs.stored.ListSections.{list_read, listed_read, stored_entries}
 use Rattle.cs_index.proofs.reading.candidates.candidates_in.Goals as goal
 use Rattle.cs_index.proofs.reading.candidates.candidates_in.Goals.{then-branch, else-branch}
 
-rise : (s : SectionOffsets) → AreAscendingOffsets s → Rise s.paths s.names s.postings s.name_index s.list_index s.trailer
-rise s order = rise_from s.paths s.names s.postings s.name_index s.list_index s.trailer order.order
-
-pub listed_entries-requires : goal.listed_entries-requires
-listed_entries-requires g c =
-    let up = rise c.args.starts.now c.requires.order in
-    omega (arith, up.ea, c.requires.order.short)
-
-pub lists_of-requires : goal.lists_of-requires
-lists_of-requires g c =
-    let up = rise c.args.starts.now c.requires.order in
-    record { short = omega (arith, up.cd, up.de, up.ea, c.requires.order.short); names = c.requires.few }
-
 pub returns-clause-answers : goal.returns-clause-answers
 returns-clause-answers g c bytes m parts paths stands =
-    let order = c.requires.order in
     let name_count : ℕ = c.args.name_count in
-    let has' = stored_lists bytes _ parts stands order in
-    let up : rises parts.entries ≡ true =
-    subst (λ (es : List ListEntry). rises es ≡ true) (entries_are bytes _ parts stands order) (stored_rise bytes _ parts stands order) in
+    let there = stored_entries bytes _ parts stands in
+    let up : rises parts.entries ≡ true = there.rise in
     let entries : List Entry = c.in_ok-listed.listed.items in
-    let listed : AreListed c.args.query.now parts.entries entries =
-    subst (λ (es : List ListEntry). AreListed c.args.query.now es entries) (entries_are bytes _ parts stands order)
-    (c.in_ok-listed.ensures.listed bytes m (list_index bytes _ parts stands order) (stored_entries bytes _ parts stands order)) in
-    let few : length parts.names < max_ids = let same = has'.names in omega (arith, same, c.requires.few) in
+    let listed : AreListed c.args.query.now parts.entries entries = c.in_ok-listed.ensures.listed bytes m parts.entries there in
+    let few : length parts.names < max_ids = let same = stands.names in omega (arith, same, c.requires.few) in
     let m1 = c.listed_entries.ensures.store.0 ∙ m in
     let trigrams : List ℕ = c.in_ok-trigrams.trigrams.items in
     let lists : List ListState = c.deref_mut.result.now in
@@ -57,8 +36,8 @@ returns-clause-answers g c bytes m parts paths stands =
     λ g. ap (λ (xs : List ℕ). has xs g) (c.in_ok-trigrams.ensures ∙ ap trigrams_listed c.deref.ensures.value) ∙ listed.all g in
     let is : map (ids_left bytes) lists ≡ map (read_for parts) trigrams =
     ap (map (ids_left bytes)) c.deref_mut.ensures.value ∙ c.in_ok-lists.ensures.lists bytes m1
-    ∙ ap (map (list_read bytes _ parts has')) c.deref-3.ensures.value
-    ∙ listed_read bytes _ parts has' entries listed.each
+    ∙ ap (map (list_read bytes _ parts stands)) c.deref-3.ensures.value
+    ∙ listed_read bytes _ parts stands entries listed.each
     ∙ ap (map (read_for parts)) (sym (c.in_ok-trigrams.ensures ∙ ap trigrams_listed c.deref.ensures.value)) in
     let held = subst (AllByRecursion (Holds bytes)) (sym c.deref_mut.ensures.value) (c.in_ok-lists.ensures.holds bytes m1) in
     let left = all_left bytes parts up c.args.query.now trigrams are lists is few held in
@@ -77,7 +56,7 @@ returns-clause-answers g c bytes m parts paths stands =
           let nodes = c.in_ok-form.form.nodes.items in
           let test : ℕ → Bool = λ id. number_matches (have_id bytes lists id) nodes c.in_ok-form.form.root in
           let met = ids_are bytes parts up c.args.query.now trigrams are lists is nodes
-          c.in_ok-form.form.root name_count (filter test (range_with_len 0 name_count)) (sym has'.names)
+          c.in_ok-form.form.root name_count (filter test (range_with_len 0 name_count)) stands.names
           (subst (λ (gs : List ℕ). IsNumberOf gs nodes c.args.query.now
           c.in_ok-form.form.root) c.deref-2.ensures.value c.in_ok-form.ensures.number) all refl in
           subst (AreOnPage c.args.page c.args.query.now parts) (sym w.answer-is) (

@@ -3,7 +3,6 @@ use Rattle.std.proofs.lemmas.List.{take_all}
 use Rattle.std.specs.Prelude.{filter}
 use Rattle.cs_trigram.specs.Trigram.{has}
 use Rattle.cs_trigram.proofs.SetLemmas.{has-filter}
-use Rattle.cs_index.specs.Opening.{entries_in}
 use Rattle.cs_index.specs.Postings.{has_entry}
 use Rattle.cs_index.specs.declared.reading.entries.Entry.{Entry}
 use Rattle.cs_index.proofs.stored.StoredEntries.{all_found, found_items, none_found, still_ascend, still_listed}
@@ -24,29 +23,29 @@ loop-trigram-preserved g c =
       | in_default w ↦ ap (λ (v : Vec Entry Global). v.items) w.listed-is ∙ none_found listed found w.in_default.not-Some
     ] in
     record {
-      each = λ bytes m list_index has. all_found (entries_in list_index) listed new found _ is
-          (c.in_ok-entry.ensures.found bytes (i.keeps ∙ m) list_index has) c.in_ok-entry.ensures.same
-          (i.each bytes m list_index has);
-      all = λ bytes m list_index has. still_listed (entries_in list_index) listed new found gs k is
-          (c.in_ok-entry.ensures.found bytes (i.keeps ∙ m) list_index has) c.in_ok-entry.ensures.same (omega arith)
-          (i.all bytes m list_index has);
+      each = λ bytes m es has. all_found es listed new found _ is
+          (c.in_ok-entry.ensures.found bytes (i.keeps ∙ m) es has) c.in_ok-entry.ensures.same
+          (i.each bytes m es has);
+      all = λ bytes m es has. still_listed es listed new found gs k is
+          (c.in_ok-entry.ensures.found bytes (i.keeps ∙ m) es has) c.in_ok-entry.ensures.same (omega arith)
+          (i.all bytes m es has);
       ascend = still_ascend listed new found gs k is c.in_ok-entry.ensures.same (omega arith) i.ascend;
-      keeps = c.find.ensures.store.0 ∙ i.keeps;
-      size = c.find.ensures.store.1 ∙ i.size;
+      keeps = c.find_entry.ensures.store.0 ∙ i.keeps;
+      size = c.find_entry.ensures.store.1 ∙ i.size;
       failed = c.in_ok-entry.ensures.store.2 ∙ i.failed;
     }
 
 pub returns-clause-listed : goal.returns-clause-listed
-returns-clause-listed g c bytes m list_index has' =
+returns-clause-listed g c bytes m es has' =
     let i = c.loop-trigram.invariant in
     let gs : List ℕ = c.deref-trigram-items.result.now in
     let k : ℕ = c.loop-trigram.trigram-index in
     record {
-      each = i.each bytes m list_index has';
+      each = i.each bytes m es has';
       all = λ n.
-          ap (λ (xs : List ℕ). has xs n) (i.all bytes m list_index has'
-          ∙ ap (filter (has_entry (entries_in list_index))) (take_all k gs (omega arith)))
-          ∙ has-filter (has_entry (entries_in list_index)) gs n
-          ∙ ap (λ b. b && has_entry (entries_in list_index) n)
+          ap (λ (xs : List ℕ). has xs n) (i.all bytes m es has'
+          ∙ ap (filter (has_entry es)) (take_all k gs (omega arith)))
+          ∙ has-filter (has_entry es) gs n
+          ∙ ap (λ b. b && has_entry es n)
           (ap (λ (xs : List ℕ). has xs n) c.deref-trigram-items.ensures.value ∙ c.in_ok-trigrams.ensures.mentioned n);
     }

@@ -1,4 +1,4 @@
-use Rattle.std.proofs.Common.{◌≡◌, ◌+◌, ◌-◌, ◌*◌, ◌≤◌, ap, inl, inr, sym, subst, ℕ, length, arith}
+use Rattle.std.proofs.Common.{◌+◌, ◌-◌, ◌*◌, ◌≤◌, ap, inl, inr, sym, subst, ℕ, length, arith}
 use Rattle.std.proofs.lemmas.Bool.{cases_lt}
 use Rattle.cs_index.specs.ListReading.{AreBytesOf}
 use Rattle.cs_index.specs.StoredOpening.{AreAscendingOffsets}

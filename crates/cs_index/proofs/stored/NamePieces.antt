@@ -137,3 +137,17 @@ reads_names bytes parts stored offsets names at len order stands one two =
       offset_piece = one;
       name_piece = two;
     }
+
+-- a reader with other pieces
+pub reads_on : (bytes : List ℕ) (parts : Parts) (reader : NameReader) → ReadsNames bytes parts reader →
+    (offsets names : Window) (at len : ℕ) → IsPiece bytes offsets → IsPiece bytes names
+    → ReadsNames bytes parts (record reader { offsets = offsets; names = names; at = at; len = len })
+reads_on bytes parts reader reads offsets names at len one two = record {
+  formed = reads.formed;
+  offsets = reads.offsets;
+  names = reads.names;
+  count = reads.count;
+  within = reads.within;
+  offset_piece = one;
+  name_piece = two;
+}

@@ -1,15 +1,14 @@
--- Buckets of a byte and of three bytes.
-use Rattle.std.proofs.Common.{◌≡◌, ℕ, ◌+◌, ◌*◌, ◌/◌, ◌%◌, ◌^◌, ◌<◌, Bool, true, false, List, [], length, get_or, set, ap, sym, subst, ◌∙◌, bit_or, inl, inr, arith, add-zero, w8, eqb, not, refl}
+-- Buckets of a byte, and of the bytes that a word begins with.
+use Rattle.std.proofs.Common.{◌≡◌, ℕ, ◌+◌, ◌*◌, ◌/◌, ◌%◌, ◌^◌, ◌<◌, Bool, true, false, List, [], length, get_or, set, ap, sym, subst, ◌∙◌, bit_or, inl, inr, arith, w8, eqb, not, refl}
 use Rattle.std.specs.Int.{bit_at}
 use Rattle.std.proofs.lemmas.Bool.{cases_eq, eqb-true}
 use Rattle.std.proofs.lemmas.Nat.Bits.{bit_at_set_same}
-use Rattle.std.proofs.lemmas.List.{get_or-set_same, get_or-set_other}
+use Rattle.std.proofs.lemmas.List.{get_or-set_same, get_or-set_other, get_or_default}
 use Rattle.cs_prefilter.specs.declared.probe.NibbleMasks.{NibbleMasks}
-use Rattle.cs_prefilter.specs.declared.probe.TrigramMasks.{TrigramMasks}
+use Rattle.cs_prefilter.specs.declared.probe.WordMasks.{WordMasks}
 use Rattle.cs_prefilter.specs.declared.word.Word.{Word}
 use Rattle.cs_prefilter.specs.WordAt.{WordAt}
-use Rattle.cs_syntax.specs.Matching.{member}
-use Rattle.cs_prefilter.specs.Buckets.{buckets, looked_up, IsInBucket, KeepsByteBuckets, buckets_of, KeepsBuckets, HasBucket}
+use Rattle.cs_prefilter.specs.Buckets.{buckets, looked_up, IsInBucket, KeepsByteBuckets, KeepsBuckets, SetIsInBucket, HasBucket}
 use Rattle.cs_prefilter.proofs.BitLemmas.{in_both, in_left, in_right, in_either}
 
 -- the table, with the bit of the bucket set in one entry
@@ -51,52 +50,55 @@ module _ (low high : List ℕ) (at_low at_high bucket : ℕ) (in_low : at_low < 
       (bit_set_keeps low at_low bucket (b % 16) g in_low (in_left _ _ g h))
       (bit_set_keeps high at_high bucket (b / 16) g in_high (in_right _ _ g h))
 
--- three bytes are in a bucket if each of them is
-pub buckets_of_bytes : (trigram_masks : TrigramMasks) (a b c g : ℕ) → IsInBucket trigram_masks.first a g →
-    IsInBucket trigram_masks.second b g → IsInBucket trigram_masks.third c g
-    → bit_at (buckets_of trigram_masks a b c) g ≡ 1
-unfolding buckets_of
-buckets_of_bytes trigram_masks a b c g one two three = in_both _ _ g one (in_both _ _ g two three)
-
--- if the masks of each offset keep the buckets of a byte, the masks together keep those of three bytes
-pub KeepsBuckets-each : (old new : TrigramMasks) → KeepsByteBuckets old.first new.first → KeepsByteBuckets old.second new.second
-    → KeepsByteBuckets old.third new.third → KeepsBuckets old new
-unfolding buckets_of
-KeepsBuckets-each old new one two three a b c g h =
-    let later = in_right _ _ g h in
-    in_both _ _ g (one a g (in_left _ _ g h)) (in_both _ _ g (two b g (in_left _ _ g later)) (three c g (in_right _ _ g later)))
-
 -- a word keeps its bucket
-pub HasBucket-kept : (old new : TrigramMasks) → KeepsBuckets old new → (bucket : ℕ) (word : Word) → HasBucket old bucket word
+pub HasBucket-kept : (old new : WordMasks) → KeepsBuckets old new → (bucket : ℕ) (word : Word) → HasBucket old bucket word
     → HasBucket new bucket word
-HasBucket-kept old new keeps bucket word of = record {
-  long = of.long;
-  has = λ a b c d in_a in_b in_c has_a has_b has_c. keeps a b c bucket (of.has a b c d in_a in_b in_c has_a has_b has_c);
-}
+HasBucket-kept old new keeps bucket word of i m within b d small may = keeps i m within b bucket (of i m within b d small may)
 
--- where a word of the bucket occurs, its first three bytes are in the bucket
-pub in_bucket : (trigram_masks : TrigramMasks) (text : List ℕ) (k bucket : ℕ) (word : Word) → ((i : ℕ) → get_or text i 0 < 256)
-    → HasBucket trigram_masks bucket word → WordAt text k word
-    → bit_at (buckets_of trigram_masks (get_or text k 0) (get_or text (k + 1) 0) (get_or text (k + 2) 0)) bucket ≡ 1
-in_bucket trigram_masks text k bucket word bytes of occurs =
-    let at = λ (i : ℕ) (within : i < length word.sets.items). occurs.each i [] within in
-    let first : member (get_or word.sets.items 0 []) (get_or text k 0) ≡ true =
-    ap (λ i. member (get_or word.sets.items 0 []) (get_or text i 0)) (sym (add-zero k)) ∙ at 0 (omega (arith, of.long)) in
-    of.has _ _ _ [] (bytes k) (bytes (k + 1)) (bytes (k + 2)) first (at 1 (omega (arith, of.long))) (at 2 (omega (arith, of.long)))
+-- where a word of the bucket occurs, each of the bytes that have masks is in the bucket
+pub in_bucket : (word_masks : WordMasks) (text : List ℕ) (k bucket : ℕ) (word : Word) → ((i : ℕ) → get_or text i 0 < 256)
+    → HasBucket word_masks bucket word → WordAt text k word
+    → (i : ℕ) (m : NibbleMasks) → i < 5 → IsInBucket (get_or word_masks.at i m) (get_or text (k + i) 0) bucket
+in_bucket word_masks text k bucket word bytes of occurs i m within =
+    of i m within (get_or text (k + i) 0) [] (bytes (k + i)) (λ lt. occurs.each i [] lt)
 
--- the same for each byte by the masks of its offset
-pub in_buckets : (trigram_masks : TrigramMasks) (a b c g : ℕ) → bit_at (buckets_of trigram_masks a b c) g ≡ 1
-    → IsInBucket trigram_masks.first a g × IsInBucket trigram_masks.second b g × IsInBucket trigram_masks.third c g
-unfolding buckets_of
-in_buckets trigram_masks a b c g set =
-    let later = in_right _ _ g set in
-    (in_left _ _ g set, in_left _ _ g later, in_right _ _ g later)
+-- masks that replace those of an offset, and keep the buckets of a byte
+module _ (masks : List NibbleMasks) (i : ℕ) (new : NibbleMasks) (within : i < length masks) where
+  pub masks_keep : (old : NibbleMasks) → KeepsByteBuckets (get_or masks i old) new
+      → (j : ℕ) (m : NibbleMasks) → KeepsByteBuckets (get_or masks j m) (get_or (set masks i new) j m)
+  masks_keep old keeps j m b g h = elim (cases_eq j i) [
+    | inl same ↦
+        let here = subst (λ n. IsInBucket (get_or masks n m) b g) same h in
+        let kept = keeps b g (subst (λ (x : NibbleMasks). IsInBucket x b g) (get_or_default masks i m old within) here) in
+        subst (λ (n : ℕ). IsInBucket (get_or (set masks i new) n m) b g) (sym same)
+        (subst (λ (x : NibbleMasks). IsInBucket x b g) (sym (get_or-set_same masks i new m within)) kept)
+    | inr other ↦ subst (λ (x : NibbleMasks). IsInBucket x b g) (sym (get_or-set_other masks i j new m other)) h
+  ]
+
+  pub masks_have : (word : Word) (bucket : ℕ) → ((j : ℕ) (m : NibbleMasks) → j < i → SetIsInBucket (get_or masks j m) word j bucket)
+      → SetIsInBucket new word i bucket
+      → (j : ℕ) (m : NibbleMasks) → j < i + 1 → SetIsInBucket (get_or (set masks i new) j m) word j bucket
+  masks_have word bucket before here j m below = elim (cases_eq j i) [
+    | inl same ↦ subst (λ (n : ℕ). SetIsInBucket (get_or (set masks i new) n m) word n bucket) (sym same)
+        (subst (λ (x : NibbleMasks). SetIsInBucket x word i bucket) (sym (get_or-set_same masks i new m within)) here)
+    | inr other ↦ subst (λ (x : NibbleMasks). SetIsInBucket x word j bucket) (sym (get_or-set_other masks i j new m other))
+        (before j m (omega (arith, below, other)))
+  ]
 
 -- a byte of a bucket is also in it by its low nibble
 pub in_looked_up : (all : Bool) (masks : NibbleMasks) (b g : ℕ) → IsInBucket masks b g → bit_at (looked_up all masks b) g ≡ 1
 unfolding buckets
 in_looked_up true masks b g set = set
 in_looked_up false masks b g set = in_left _ _ g set
+
+-- where a word of the bucket occurs, what is looked up for each of the bytes that have masks has the bucket
+pub word_looked_up : (all : Bool) (word_masks : WordMasks) (text : List ℕ) (k bucket : ℕ) (word : Word) → ((i : ℕ) → get_or text i 0 < 256)
+    → HasBucket word_masks bucket word → WordAt text k word → (i : ℕ) (m : NibbleMasks) → i < 5 → (at : ℕ) → at ≡ k + i
+    → bit_at (looked_up all (get_or word_masks.at i m) (get_or text at 0)) bucket ≡ 1
+word_looked_up all word_masks text k bucket word bytes of occurs i m within at there =
+    ap (λ (j : ℕ). bit_at (looked_up all (get_or word_masks.at i m) (get_or text j 0)) bucket) there
+    ∙ in_looked_up all (get_or word_masks.at i m) (get_or text (k + i) 0) bucket
+    (in_bucket word_masks text k bucket word bytes of occurs i m within)
 
 -- a flag that is a number: all nibbles if it is not 0, and low nibbles if it is
 pub all_of_flag : (flag : ℕ) (masks : NibbleMasks) (b : ℕ) → (flag ≡ 0 → ⊥) → looked_up (not (eqb flag 0)) masks b ≡ buckets masks b

@@ -1,10 +1,11 @@
--- Worked examples: the buckets of bytes and words, tests of a letter, and eight bytes.
-use Rattle.std.proofs.Common.{◌≡◌, ℕ, ◌-◌, List, [], ◌∷◌, ◌++◌, replicate, get_or, inl, inr, refl, ap, arith}
+-- Worked examples: the buckets of bytes, tests of a letter, and eight bytes.
+use Rattle.std.proofs.Common.{◌≡◌, ℕ, ◌-◌, ◌/◌, ◌%◌, List, [], ◌∷◌, ◌++◌, replicate, get_or, inl, inr, refl, ap, arith, bit_and}
 use Rattle.std.proofs.lemmas.Bool.{cases_lt}
+use Rattle.std.proofs.lemmas.Simd.{get_or-replicate}
+use Rattle.std.specs.Int.{bit_at}
 use Rattle.cs_prefilter.specs.declared.probe.ByteTest.{ByteTest}
 use Rattle.cs_prefilter.specs.declared.probe.NibbleMasks.{NibbleMasks}
-use Rattle.cs_prefilter.specs.declared.probe.TrigramMasks.{TrigramMasks}
-use Rattle.cs_prefilter.specs.Buckets.{buckets, buckets_of}
+use Rattle.cs_prefilter.specs.Buckets.{buckets, SetIsInBucket}
 use Rattle.std.specs.Prelude.{true, false, codes}
 use Rattle.cs_prefilter.specs.Pairs.{PassesTest}
 use Rattle.cs_prefilter.specs.WordBuckets.{IsInPart, StartsPart}
@@ -30,16 +31,14 @@ b_is_in_no_bucket : buckets masks 98 ≡ 0
 unfolding buckets masks entry
 b_is_in_no_bucket = refl
 
-trigram_masks : TrigramMasks
-trigram_masks = record {
-  first = masks;
-  second = record { low = entry 2 4; high = entry 6 255 };
-  third = record { low = entry 3 6; high = entry 6 255 };
-}
+-- masks by which each byte is in bucket 2: they hold what may follow the end of a word
+any_byte : NibbleMasks
+any_byte = record { low = replicate 16 4; high = replicate 16 255 }
 
-abc_is_in_one_bucket : buckets_of trigram_masks 97 98 99 ≡ 4
-unfolding buckets_of buckets trigram_masks masks entry
-abc_is_in_one_bucket = refl
+any_byte_is_in_bucket : (word : Word) (i : ℕ) → SetIsInBucket any_byte word i 2
+unfolding buckets any_byte
+any_byte_is_in_bucket word i b d small may =
+    (λ j. bit_at (bit_and (get_or-replicate 16 (b % 16) 4 0 (omega arith) j) (get_or-replicate 16 (b / 16) 255 0 (omega (arith, small)) j)) 2)
 
 -- a test of both cases of a letter: `a` and `A` pass, and `q` does not
 letter : ByteTest

@@ -1,10 +1,10 @@
--- Buckets of class trigrams (Teddy): the buckets that the nibble masks give for three neighbouring bytes.
-use Rattle.std.specs.Prelude.{◌≡◌, ℕ, ◌/◌, ◌%◌, ◌<◌, ◌≤◌, true, false, Bool, List, length, slice_index, slice_index_or, bit_and}
+-- Buckets of words (Teddy): the buckets that the nibble masks give for the bytes that words begin with.
+use Rattle.std.specs.Prelude.{◌≡◌, ℕ, ◌/◌, ◌%◌, ◌<◌, true, false, Bool, List, length, slice_index, slice_index_or, bit_and}
 use Rattle.std.specs.Int.{bit_at}
 use Rattle.cs_syntax.specs.Matching.{member}
 use Rattle.cs_prefilter.specs.declared.word.Word.{Word}
 use Rattle.cs_prefilter.specs.declared.probe.NibbleMasks.{NibbleMasks}
-use Rattle.cs_prefilter.specs.declared.probe.TrigramMasks.{TrigramMasks}
+use Rattle.cs_prefilter.specs.declared.probe.WordMasks.{WordMasks}
 
 -- the buckets that both nibbles of the byte are in, one bit each
 unfoldable pub buckets : NibbleMasks → ℕ → ℕ
@@ -23,24 +23,17 @@ IsInBucket masks b bucket = bit_at (buckets masks b) bucket ≡ 1
 abbrev pub KeepsByteBuckets : NibbleMasks → NibbleMasks → Type 0
 KeepsByteBuckets old new = (b bucket : ℕ) → IsInBucket old b bucket → IsInBucket new b bucket
 
--- the buckets that all three bytes are in, each by the masks of its offset
-unfoldable pub buckets_of : TrigramMasks → ℕ → ℕ → ℕ → ℕ
-buckets_of trigram_masks a b c =
-    bit_and (buckets trigram_masks.first a) (bit_and (buckets trigram_masks.second b) (buckets trigram_masks.third c))
+-- the masks of the offset keep the buckets of each byte
+abbrev pub KeepsBuckets : WordMasks → WordMasks → Type 0
+KeepsBuckets old new = (i : ℕ) (m : NibbleMasks) → i < 5
+    → KeepsByteBuckets (slice_index_or old.at i m) (slice_index_or new.at i m)
 
--- any three bytes keep their buckets
-abbrev pub KeepsBuckets : TrigramMasks → TrigramMasks → Type 0
-KeepsBuckets old new =
-    (a b c bucket : ℕ) → bit_at (buckets_of old a b c) bucket ≡ 1 → bit_at (buckets_of new a b c) bucket ≡ 1
+-- any byte that the word may have at the index is in the bucket: behind the end of the word, any byte
+abbrev pub SetIsInBucket : NibbleMasks → Word → ℕ → ℕ → Type 0
+SetIsInBucket masks word i bucket = (b : ℕ) (d : List Bool) → b < 256
+    → (i < length word.sets.items → member (slice_index_or word.sets.items i d) b ≡ true) → IsInBucket masks b bucket
 
--- any three bytes that the first three sets of the word have are in the bucket
-abbrev pub TrigramIsInBucket : TrigramMasks → Word → ℕ → Type 0
-TrigramIsInBucket trigram_masks word bucket =
-    (a b c : ℕ) (d : List Bool) → a < 256 → b < 256 → c < 256
-    → member (slice_index_or word.sets.items 0 d) a ≡ true → member (slice_index_or word.sets.items 1 d) b ≡ true
-    → member (slice_index_or word.sets.items 2 d) c ≡ true → bit_at (buckets_of trigram_masks a b c) bucket ≡ 1
-
--- the trigram that the word begins with is in the bucket
-pub record HasBucket (trigram_masks : TrigramMasks) (bucket : ℕ) (word : Word) : Type 0 where
-  pub long : 3 ≤ length word.sets.items
-  pub has : TrigramIsInBucket trigram_masks word bucket
+-- the sets that the word begins with are in the bucket, each by the masks of its offset
+abbrev pub HasBucket : WordMasks → ℕ → Word → Type 0
+HasBucket word_masks bucket word = (i : ℕ) (m : NibbleMasks) → i < 5
+    → SetIsInBucket (slice_index_or word_masks.at i m) word i bucket

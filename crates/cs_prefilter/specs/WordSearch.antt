@@ -2,7 +2,7 @@
 use Rattle.std.specs.Prelude.{ℕ, true, false}
 use Rattle.cs_prefilter.specs.declared.word.Word.{Word}
 use Rattle.cs_prefilter.specs.declared.prefilter.WordSearch.{WordSearch}
-use Rattle.cs_prefilter.specs.declared.prefilter.WordSearch.TheVariants.{Pair, FoldedPair, TwoPairs, TwoFoldedPairs, LowNibbles, AllNibbles}
+use Rattle.cs_prefilter.specs.declared.prefilter.WordSearch.TheVariants.{Pair, FoldedPair, TwoPairs, TwoFoldedPairs, LowNibbles, FiveNibbles, AllNibbles}
 use Rattle.cs_prefilter.specs.Pairs.{HasPair}
 use Rattle.cs_prefilter.specs.Buckets.{HasBucket}
 
@@ -13,4 +13,5 @@ Finds (FoldedPair pairs) bucket word = HasPair true false pairs.first pairs.seco
 Finds (TwoPairs pairs) bucket word = HasPair false true pairs.first pairs.second bucket word
 Finds (TwoFoldedPairs pairs) bucket word = HasPair true true pairs.first pairs.second bucket word
 Finds (LowNibbles nibbles) bucket word = HasBucket nibbles.masks bucket word
+Finds (FiveNibbles nibbles) bucket word = HasBucket nibbles.masks bucket word
 Finds (AllNibbles nibbles) bucket word = HasBucket nibbles.masks bucket word

@@ -24,9 +24,8 @@
 //!   has a pair of rare bytes, which are compared at their distance. Pairs are chosen by a table of
 //!   bigrams, neighbours first.
 //! - *Class trigrams*, for other words, after Hyperscan's Teddy: the words are in eight *buckets*,
-//!   and for each of their first three sets two masks (shufti) give the buckets that the byte may
-//!   be in by its low and its high nibble. Where the frequencies of nibbles promise few offsets,
-//!   the vector test uses the low nibbles alone.
+//!   and for each of their first sets two masks (shufti) give the buckets of a byte by its low and
+//!   its high nibble. Where three or five low nibbles promise few offsets, they are tested alone.
 //!
 //! How lines are skipped is chosen by byte frequencies, from a rough table for source text. A word
 //! is expected as often as its rarest three neighbouring bytes, but three that are part of the most

@@ -5,7 +5,7 @@ ghost use Rattle.cs_prefilter.specs.Cited.{tree_of, AreSufficient, HasWord, IsPr
 
 use crate::comparing::WordList;
 use crate::listing::Listed;
-use crate::probe::{Nibbles, Pair, Pairs, TrigramMasks};
+use crate::probe::{Nibbles, Pair, Pairs, WordMasks};
 use crate::rarity::RARE;
 use crate::required::required;
 use crate::runs::are_all;
@@ -21,8 +21,11 @@ use std::marker::Model;
 const WORTH: u64 = 5_000_000_000;
 
 /// Below this share pairs are worth their search, unless there are trigrams. If each candidate is a
-/// match, they always are.
+/// match, they always are. Below its triple five bytes are first looked up by their low nibbles.
 const MOST_SHARE: u64 = 10_000_000_000;
+
+/// Below this share three bytes are first looked up by their low nibbles.
+const MOST_LOW: u64 = 2_000_000_000;
 
 /// Words, and a search that rules out most offsets. Contracts see the words, and whether each line
 /// that contains one of them has a match.
@@ -137,7 +140,7 @@ impl Prefilter {
 pub(crate) enum Kind {
     /// Two bytes of each of at most two words.
     Pairs,
-    /// The first three sets of each word.
+    /// The first sets of each word.
     Trigrams,
 }
 
@@ -160,8 +163,9 @@ pub(crate) enum WordSearch {
     FoldedPair(Pairs<true, false>),
     TwoPairs(Pairs<false, true>),
     TwoFoldedPairs(Pairs<true, true>),
-    LowNibbles(Nibbles<false>),
-    AllNibbles(Nibbles<true>),
+    LowNibbles(Nibbles<3, false>),
+    FiveNibbles(Nibbles<5, false>),
+    AllNibbles(Nibbles<3, true>),
 }
 
 impl WordSearch {
@@ -173,9 +177,11 @@ impl WordSearch {
         match kind {
             Kind::Pairs => WordSearch::by_pairs(words),
             Kind::Trigrams => {
-                let masks = TrigramMasks::of(words)?;
-                Some(if masks.is_low() {
+                let masks = WordMasks::of(words);
+                Some(if masks.low_share(3) < MOST_LOW {
                     WordSearch::LowNibbles(Nibbles { masks })
+                } else if masks.low_share(5) < 3 * MOST_SHARE {
+                    WordSearch::FiveNibbles(Nibbles { masks })
                 } else {
                     WordSearch::AllNibbles(Nibbles { masks })
                 })
@@ -222,6 +228,7 @@ impl WordSearch {
             WordSearch::TwoPairs(probe) => words.first(probe, text, from, steps),
             WordSearch::TwoFoldedPairs(probe) => words.first(probe, text, from, steps),
             WordSearch::LowNibbles(probe) => words.first(probe, text, from, steps),
+            WordSearch::FiveNibbles(probe) => words.first(probe, text, from, steps),
             WordSearch::AllNibbles(probe) => words.first(probe, text, from, steps),
         }
     }
@@ -255,6 +262,7 @@ impl WordSearch {
             WordSearch::TwoPairs(probe) => words.list(probe, text, from, ends, steps),
             WordSearch::TwoFoldedPairs(probe) => words.list(probe, text, from, ends, steps),
             WordSearch::LowNibbles(probe) => words.list(probe, text, from, ends, steps),
+            WordSearch::FiveNibbles(probe) => words.list(probe, text, from, ends, steps),
             WordSearch::AllNibbles(probe) => words.list(probe, text, from, ends, steps),
         }
     }

@@ -1,7 +1,7 @@
 // Probes: tests of 64 offsets at once, by vectors of 32 bytes. The two kinds are pairs of bytes
 // (the packed pairs of memchr's memmem), two rare bytes of a word, compared at their distance; and
 // nibble masks (shufti) with a bit for each bucket of class trigrams (Teddy).
-ghost use Rattle.std.specs.Prelude.{◌≡◌, ◌+◌, ◌≤◌, ℕ, IsTrue, length, ◌≢◌, ◌↔◌, ◌/◌, ◌%◌, slice_index, bit_and, bit_or, IfSome, ◌<◌, vec_len, true};
+ghost use Rattle.std.specs.Prelude.{◌≡◌, ◌+◌, ◌≤◌, ℕ, IsTrue, length, ◌≢◌, ◌↔◌, ◌/◌, ◌%◌, slice_index, bit_and, bit_or, IfSome, ◌<◌, true};
 ghost use Rattle.std.specs.Int.{bit_at};
 ghost use Rattle.cs_prefilter.specs.declared.word.Word.{Word};
 ghost use Rattle.cs_prefilter.specs.Probe.{MarksLanes, MarksBits, MarksBuckets, NoneFrom};
@@ -9,7 +9,7 @@ ghost use Rattle.cs_prefilter.specs.Lanes.{HasLanes, full_if_equal};
 ghost use Rattle.cs_prefilter.specs.ByteTest.{IsTestOf, used_mask};
 ghost use Rattle.cs_syntax.specs.Matching.{member};
 ghost use Rattle.cs_prefilter.specs.OffsetWork.{most_words};
-ghost use Rattle.cs_prefilter.specs.Buckets.{buckets, looked_up, IsInBucket, KeepsByteBuckets, KeepsBuckets, TrigramIsInBucket, HasBucket};
+ghost use Rattle.cs_prefilter.specs.Buckets.{buckets, looked_up, IsInBucket, KeepsByteBuckets, KeepsBuckets, HasBucket};
 ghost use Rattle.cs_prefilter.specs.WordBuckets.{AreFound};
 
 use crate::comparing::{BUCKETS, bucket_of};
@@ -169,12 +169,8 @@ impl<const FOLDED: bool, const TWO: bool> Probe for Pairs<FOLDED, TWO> {
     }
 }
 
-/// Below this share of offsets, in units of 10^-12, the low nibbles alone are looked up first.
-const MOST_LOW: u64 = 3_000_000_000;
-
-/// The nibble masks of one of the three offsets of a trigram: a table of buckets by the low nibble
-/// of a byte, and one by the high nibble. A byte is in the buckets that both of its entries
-/// contain.
+/// The nibble masks of an offset of words: a table of buckets by the low nibble of a byte, and one
+/// by the high nibble. A byte is in the buckets that both of its entries contain.
 #[derive(Clone, Copy, Drop)]
 pub(crate) struct NibbleMasks {
     low: [u8; 16],
@@ -249,84 +245,83 @@ impl NibbleMasks {
     }
 }
 
-/// The nibble masks of the three offsets of a trigram.
+/// The number of offsets of a word that have nibble masks.
+pub(crate) const MASKED: usize = 5;
+
+/// The nibble masks of the first offsets of words.
 #[derive(Clone, Copy, Drop)]
-pub(crate) struct TrigramMasks {
-    first: NibbleMasks,
-    second: NibbleMasks,
-    third: NibbleMasks,
+pub(crate) struct WordMasks {
+    at: [NibbleMasks; MASKED],
 }
 
-impl TrigramMasks {
-    /// Distributes the words over the buckets by the trigrams that they begin with, if each word
-    /// has one.
-    pub(crate) fn of(words: &[Word]) -> Option<TrigramMasks>
+impl WordMasks {
+    /// Distributes the words over the buckets by the sets that they begin with.
+    pub(crate) fn of(words: &[Word]) -> WordMasks
         requires { length words.now ≤ most_words }
-        ensures { IfSome result (λ masks. AreFound (HasBucket masks) words.now) }
+        ensures { AreFound (HasBucket result) words.now }
     {
-        let mut trigram_masks = TrigramMasks {
-            first: NONE,
-            second: NONE,
-            third: NONE,
-        };
+        let mut word_masks = WordMasks { at: [NONE; MASKED] };
         for (i, word) in words.iter().enumerate() {
-            if word.sets.len() < 3 {
-                return None;
-            }
-            trigram_masks.add(word, bucket_of(i, words.len()));
+            word_masks.add(word, bucket_of(i, words.len()));
         }
-        Some(trigram_masks)
+        word_masks
     }
 
-    /// Adds the trigram that the word begins with to the bucket.
+    /// Adds the sets that the word begins with to the bucket. Behind its end any byte follows.
     fn add(&mut self, word: &Word, bucket: usize)
-        requires long { 3 ≤ vec_len word.now.sets }
-        requires bucket { bucket < BUCKETS }
-        ensures has { TrigramIsInBucket self.new word.now bucket }
+        requires { bucket < BUCKETS }
+        ensures has { HasBucket self.new bucket word.now }
         ensures keeps { KeepsBuckets self.old self.new }
     {
-        self.first.add(&word.sets[0], bucket);
-        self.second.add(&word.sets[1], bucket);
-        self.third.add(&word.sets[2], bucket);
-    }
-
-    /// Whether the low nibbles rule out enough offsets.
-    pub(crate) fn is_low(&self) -> bool {
-        let mut share = 0u64;
-        for bucket in 0..BUCKETS {
-            let first = self.first.low_frequency(bucket);
-            let second = self.second.low_frequency(bucket);
-            let third = self.third.low_frequency(bucket);
-            share = share.saturating_add(first.saturating_mul(second).saturating_mul(third));
+        for i in 0..MASKED {
+            match word.sets.get(i) {
+                Some(set) => self.at[i].add(set, bucket),
+                None => self.at[i].add(&ByteSet::all(), bucket),
+            }
         }
-        share < MOST_LOW
+    }
+
+    /// The share of offsets that so many low nibbles are expected to let pass, in units of 10^-12.
+    pub(crate) fn low_share(&self, len: usize) -> u64 {
+        let mut sum = 0u64;
+        for bucket in 0..BUCKETS {
+            let mut share = 1_000_000_000_000u64;
+            for masks in self.at.iter().take(len) {
+                share = share.saturating_mul(masks.low_frequency(bucket)) / 10_000;
+            }
+            sum = sum.saturating_add(share);
+        }
+        sum
     }
 }
 
-/// A probe by the nibbles of three bytes; without ALL a vector test by their low nibbles.
+/// A probe by the nibbles of LEN bytes; without ALL a vector test by their low nibbles.
 #[derive(Clone, Copy, Drop)]
-pub(crate) struct Nibbles<const ALL: bool> {
-    pub(crate) masks: TrigramMasks,
+pub(crate) struct Nibbles<const LEN: usize, const ALL: bool> {
+    pub(crate) masks: WordMasks,
 }
 
-impl<const ALL: bool> Probe for Nibbles<ALL> {
+impl<const LEN: usize, const ALL: bool> Probe for Nibbles<LEN, ALL> {
     ghost use Rattle.cs_prefilter.specs.Buckets.{HasBucket};
 
     ghost Finds = { λ nibbles bucket word. HasBucket nibbles.masks bucket word };
 
     #[inline(always)]
     fn lanes(&self, text: &[u8], offset: usize) -> u8x32 {
-        let first = self.masks.first.lanes::<ALL>(text, offset);
-        let second = self.masks.second.lanes::<ALL>(text, offset + 1);
-        let third = self.masks.third.lanes::<ALL>(text, offset + 2);
-        both(first, both(second, third))
+        let mut lanes = self.masks.at[0].lanes::<ALL>(text, offset);
+        for i in 1..LEN.min(MASKED) {
+            lanes = both(lanes, self.masks.at[i].lanes::<ALL>(text, offset + i));
+        }
+        lanes
     }
 
     #[inline(always)]
     fn buckets(&self, text: &[u8], offset: usize) -> u8 {
-        let masks = &self.masks;
-        masks.first.of(text[offset])
-            & (masks.second.of(text[offset + 1]) & masks.third.of(text[offset + 2]))
+        let mut buckets = self.masks.at[0].of(text[offset]);
+        for i in 1..LEN.min(MASKED) {
+            buckets &= self.masks.at[i].of(text[offset + i]);
+        }
+        buckets
     }
 }
 

@@ -1,6 +1,6 @@
 // Frequencies in source text, by which words are ranked. Only speed depends on them.
 use crate::prefilter::Kind;
-use crate::probe::ByteTest;
+use crate::probe::{ByteTest, MASKED};
 use cs_syntax::ByteSet;
 
 /// The largest number of sets of a word.
@@ -109,6 +109,9 @@ fn rarest_trigram(run: &[ByteSet]) -> Part {
     let is_common = COMMON_SHARE <= first && first < RARE;
     if is_common || first < rarest.share.saturating_mul(2).min(RARE) {
         rarest.from = 0;
+    }
+    if run.iter().all(|set| ByteTest::of(set).is_some()) {
+        rarest.from = rarest.from.min(run.len().saturating_sub(MASKED));
     }
     rarest
 }

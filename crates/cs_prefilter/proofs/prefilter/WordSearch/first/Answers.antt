@@ -19,5 +19,8 @@ first-requires-in-TwoFoldedPairs-clause-finds c = subst (λ (s : WordSearch). Ar
 pub first-requires-in-LowNibbles-clause-finds : goal.first-requires-in-LowNibbles-clause-finds
 first-requires-in-LowNibbles-clause-finds c = subst (λ (s : WordSearch). AreFound (Finds s) c.args.words.now.words.items) c.in-LowNibbles.is c.requires.finds
 
+pub first-requires-in-FiveNibbles-clause-finds : goal.first-requires-in-FiveNibbles-clause-finds
+first-requires-in-FiveNibbles-clause-finds c = subst (λ (s : WordSearch). AreFound (Finds s) c.args.words.now.words.items) c.in-FiveNibbles.is c.requires.finds
+
 pub first-requires-in-AllNibbles-clause-finds : goal.first-requires-in-AllNibbles-clause-finds
 first-requires-in-AllNibbles-clause-finds c = subst (λ (s : WordSearch). AreFound (Finds s) c.args.words.now.words.items) c.in-AllNibbles.is c.requires.finds

@@ -19,5 +19,8 @@ list-requires-in-TwoFoldedPairs-clause-finds c = subst (λ (s : WordSearch). Are
 pub list-requires-in-LowNibbles-clause-finds : goal.list-requires-in-LowNibbles-clause-finds
 list-requires-in-LowNibbles-clause-finds c = subst (λ (s : WordSearch). AreFound (Finds s) c.args.words.now.words.items) c.in-LowNibbles.is c.requires.finds
 
+pub list-requires-in-FiveNibbles-clause-finds : goal.list-requires-in-FiveNibbles-clause-finds
+list-requires-in-FiveNibbles-clause-finds c = subst (λ (s : WordSearch). AreFound (Finds s) c.args.words.now.words.items) c.in-FiveNibbles.is c.requires.finds
+
 pub list-requires-in-AllNibbles-clause-finds : goal.list-requires-in-AllNibbles-clause-finds
 list-requires-in-AllNibbles-clause-finds c = subst (λ (s : WordSearch). AreFound (Finds s) c.args.words.now.words.items) c.in-AllNibbles.is c.requires.finds

@@ -48,7 +48,7 @@ text_of : (set : Option (List ℕ)) (trigrams : List ℕ) → Some (text_content
 text_of None trigrams is = absurd (false≢true (ap is_text is))
 text_of (Some found) trigrams is = ap (λ c. Some (some_text c)) is
 
-text_read : (item : Item) (trigrams : List ℕ) → item_content item ≡ Some (text trigrams) →
+pub text_read : (item : Item) (trigrams : List ℕ) → item_content item ≡ Some (text trigrams) →
     read_item (text_trigrams limits) item ≡ Some trigrams
 text_read (file bytes) trigrams is = by_test (is_binary bytes) is
   where

@@ -1,6 +1,8 @@
 mod AnewLemmas
+mod FirstJoinLemmas
 mod FirstLemmas
 mod FoundLemmas
+mod JoinLemmas
 mod LearningLemmas
 mod MergedLemmas
 mod OldLemmas

@@ -43,7 +43,7 @@ all_indexed : (P : Known → Type 0) (list : List Stamped) → AllByRecursion (�
 all_indexed P [] all = tt
 all_indexed P (one ∷ list) all = (all.0, all_indexed P list all.1)
 
-all_numbers : (names : List (List ℕ)) (stamps : List Stamp) → AllByRecursion HasNumbers stamps →
+pub all_numbers : (names : List (List ℕ)) (stamps : List Stamp) → AllByRecursion HasNumbers stamps →
     AllByRecursion (λ (one : Known). HasNumbers one.stamp) (indexed_files names stamps)
 all_numbers [] stamps all = tt
 all_numbers (name ∷ names) [] all = tt

@@ -64,7 +64,7 @@ begun_at given new bytes index same has = subst (λ i. HasBegun given new i [] [
 
 -- ---- lengths
 
-stamps_len : (stamps : List Stamp) → length (flat_map stamp_bytes stamps) ≡ 40 * length stamps
+pub stamps_len : (stamps : List Stamp) → length (flat_map stamp_bytes stamps) ≡ 40 * length stamps
 stamps_len [] = refl
 stamps_len (stamp ∷ stamps) =
     let a = length-append (stamp_bytes stamp) (flat_map stamp_bytes stamps) in

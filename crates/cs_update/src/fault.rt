@@ -2,6 +2,7 @@
 ghost use Rattle.std.specs.Prelude.{◌≡◌};
 ghost use Rattle.cs_update.specs.declared.fault.UpdateFault.TheVariants.{Memory};
 
+use cs_merge::MergeFault;
 use cs_tree::IoFault;
 use std::alloc::{AllocError, AllocFailed};
 use thiserror::Error;
@@ -46,6 +47,17 @@ impl From<IoFault> for UpdateFault {
         match fault {
             IoFault::Failed => UpdateFault::BadState,
             IoFault::Memory => UpdateFault::Memory,
+        }
+    }
+}
+
+/// A failed merge or join of indexes. An old index that cannot be merged is damaged.
+impl From<MergeFault> for UpdateFault {
+    fn from(fault: MergeFault) -> UpdateFault {
+        match fault {
+            MergeFault::Memory => UpdateFault::Memory,
+            MergeFault::TooLarge => UpdateFault::TooLarge,
+            _ => UpdateFault::BadState,
         }
     }
 }

@@ -1,5 +1,5 @@
 // The files that no index has, after an update.
-ghost use Rattle.std.specs.Prelude.{◌≡◌, ◌++◌, [], true, ℕ, List, Some, IfOk, OnOk, map, string_bytes};
+ghost use Rattle.std.specs.Prelude.{◌≡◌, ◌++◌, true, ℕ, List, Some, IfOk, OnOk, map, string_bytes};
 ghost use Rattle.std.specs.List.{AllByRecursion};
 ghost use Rattle.cs_update.specs.Cited.{are_ascending, HasLeft, Known, known_of, IsOther, HasBegun, HasOthersOf, IsOtherOf};
 ghost use Rattle.cs_tree.specs.PathSet as set;
@@ -47,11 +47,13 @@ pub(crate) fn write_others<S: Store, O: Output>(
     new: &mut NewState<O>,
 ) -> Result<(), UpdateFault>
     requires paths { are_ascending (map string_bytes paths.now) ≡ true }
-    ensures written { (body index : List ℕ) (stamps : List Stamp) (known : List Known) →
+    ensures written { (body index : List ℕ) (stamps : List Stamp) (known before : List Known) →
         S.model store.old ≡ Some body → HasLeft body known old.old →
-        HasBegun O.given new.old index stamps [] → AllByRecursion IsOther (map known_of own.now) →
-        OnOk result ((others : List Known) × HasBegun O.given new.new index stamps others × AllByRecursion
-        (IsOtherOf (set.from_list (map string_bytes paths.now)) known (map known_of own.now)) others) }
+        HasBegun O.given new.old index stamps before → AllByRecursion IsOther (map known_of own.now) →
+        OnOk result ((others : List Known) × HasBegun O.given new.new index stamps (before ++ others)
+        × AllByRecursion (IsOtherOf (set.from_list (map string_bytes paths.now)) known
+        (map known_of own.now)) others) }
+    ensures store { S.model store.new ≡ S.model store.old }
 {
     let mut rest = own;
     'files: for _file in 0..u32::MAX {

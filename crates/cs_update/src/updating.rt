@@ -15,7 +15,7 @@ use crate::own_paths::own_paths;
 use crate::own_texts::OwnTexts;
 use crate::stamps::write_stamps;
 use cs_index::{BuildFault, Index, OldIndex, Tables};
-use cs_merge::{MergeFault, merge_stored};
+use cs_merge::merge_stored;
 use cs_output::Output;
 use cs_state::{FirstBytes, OtherReader, StampReader, StateFile, SummedBytes, SummedOutput};
 use cs_tree::{Store, Tree};
@@ -198,9 +198,7 @@ fn merge_indexes<S: Store, O: Output + Drop>(
     let mut out = SummedOutput::new(alloc, CountedOutput::new(out));
     match merge_stored(alloc, store, u32::MAX, old, newer, &mut out)? {
         Ok(_sent) => {}
-        Err(MergeFault::Memory) => return Err(UpdateFault::Memory),
-        Err(MergeFault::TooLarge) => return Err(UpdateFault::TooLarge),
-        Err(_) => return Err(UpdateFault::BadState),
+        Err(fault) => return Err(UpdateFault::from(fault)),
     }
     let new = NewState::new(out)?;
     Ok(new)

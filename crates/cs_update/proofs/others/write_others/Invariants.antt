@@ -1,4 +1,4 @@
-use Rattle.std.proofs.Common.{◌≡◌, [], ℕ, List, Some, map, string_bytes}
+use Rattle.std.proofs.Common.{◌≡◌, ◌++◌, ℕ, List, Some, map, string_bytes}
 use Rattle.std.specs.List.{AllByRecursion}
 use Rattle.cs_tree.specs.PathSet as set
 use Rattle.cs_tree.specs.declared.tree.Stamp.{Stamp}
@@ -14,10 +14,10 @@ use Rattle.cs_update.proofs.others.write_others.Given as goal
 abbrev pub invariant-files : goal.invariant-files
 invariant-files g l = record {
   store : g.S.Store.model l.store ≡ g.S.Store.model l.fn.store;
-  written : (body index : List ℕ) (stamps : List Stamp) (known : List Known) → g.S.Store.model l.fn.store ≡ Some body →
-      HasLeft body known l.fn.old → HasBegun g.O.Output.given l.fn.new index stamps [] → AllByRecursion IsOther (map known_of l.fn.own) →
+  written : (body index : List ℕ) (stamps : List Stamp) (known before : List Known) → g.S.Store.model l.fn.store ≡ Some body →
+      HasLeft body known l.fn.old → HasBegun g.O.Output.given l.fn.new index stamps before → AllByRecursion IsOther (map known_of l.fn.own) →
       HasLeft body known l.old
       × AllByRecursion (λ one. IsOther one × IsListed one (map known_of l.fn.own)) (map known_of l.rest)
-      × ((others : List Known) × HasBegun g.O.Output.given l.new index stamps others × AllByRecursion
+      × ((others : List Known) × HasBegun g.O.Output.given l.new index stamps (before ++ others) × AllByRecursion
       (IsOtherOf (set.from_list (map string_bytes l.paths)) known (map known_of l.fn.own)) others);
 }

@@ -1,5 +1,7 @@
-use Rattle.std.proofs.Common.{◌≡◌, ◌≤◌, ◌∙◌, ◌+◌, ℕ, true, List, Option, Some, ap, length, map, option_map, refl, string_bytes, subst, sym, take}
+use Rattle.std.proofs.Common.{◌≡◌, ◌≤◌, ◌∙◌, ◌+◌, [], ℕ, true, List, Option, Some, ap, length, map, option_map, refl, string_bytes, subst, sym, take}
+use Rattle.std.specs.Prelude.{IfOk}
 use Rattle.std.specs.List.{AllByRecursion, zip}
+use Rattle.std.proofs.lemmas.Result.{err_from_is_err_and}
 use Rattle.cs_tree.specs.NamesAscending.{are_ascending}
 use Rattle.cs_tree.specs.PathSet as set
 use Rattle.cs_index.specs.Encoding.{names_of}
@@ -12,9 +14,14 @@ use Rattle.cs_state.specs.ProjectStates.{IsOther}
 use Rattle.cs_state.specs.StateFile.{body_of}
 use Rattle.cs_update.specs.MergedLists.{merged, own_left, stamps_in, uncovered}
 use Rattle.cs_update.specs.OldTexts.{IsOtherOf}
-use Rattle.cs_update.specs.Written.{AreStateBytes}
+use Rattle.cs_update.specs.Written.{AreStateBytes, IsMergedState}
 use Rattle.cs_update.proofs.OldLemmas.{merged_index, pairs_listed, texts_open}
 use Rattle.cs_update.proofs.updating.merge_learned.Goals as goal
+
+pub returns-in_err-write_others : goal.returns-in_err-write_others
+returns-in_err-write_others g c = λ old under each many was.
+    let fails = err_from_is_err_and c.from_residual-in_err-write_others.result c.from_residual-in_err-write_others.ensures.1 in
+    subst (λ r. IfOk r (λ out. IsMergedState c.args.learned old (g.O.Output.given out))) (sym fails.1) tt
 
 pub returns : goal.returns
 returns g c = λ old under each many was.
@@ -46,7 +53,7 @@ returns g c = λ old under each many was.
     let stamped = c.in_ok-write_stamps.ensures.written
     (ap length c.new-own_texts.ensures.names ∙ ap length own_names ∙ many ∙ sym (ap length own_stamps) ∙ sym (ap length c.new-own_texts.ensures.stamps))
     body index is.stamps body_now (texts_open was.bytes old is _ lengths stored was.has _ names (c.new.ensures body)) new.2 in
-    let last = c.in_ok-write_others.ensures.written body index _ old.known (c.write_stamps.ensures.store ∙ body_now)
+    let last = c.in_ok-write_others.ensures.written body index _ old.known [] (c.write_stamps.ensures.store ∙ body_now)
     (first_others was.bytes old is _ lengths stored was.has c.new-old_others.result middle lengths.body (c.new-old_others.ensures body) refl refl)
     stamped (subst (λ files. AllByRecursion IsOther (map known_of files)) (sym c.deref-3.ensures.value) each) in
     let out : List ℕ = g.O.Output.given c.in_ok-out.out in

@@ -9,7 +9,7 @@ pub use Rattle.cs_syntax.specs.Characters.{canonical_ranges, has_char, is_scalar
 pub use Rattle.cs_syntax.specs.ClassSets.{is_in_item, ranges_of}
 pub use Rattle.cs_syntax.specs.ClassState.{IsParsedClass, is_other_case}
 pub use Rattle.cs_syntax.specs.Classes.{after_backslash, after_colon, class, class_by_name, class_char, class_escape, class_token, items_from, name_length, posix_class, range_from, range_to, span}
-pub use Rattle.cs_syntax.specs.Cuts.{AreCuts, AreCutsOf, Divide, all_char_ranges, char_ranges, floor, range_cuts}
+pub use Rattle.cs_syntax.specs.Cuts.{AreCuts, AreCutsOf, Divide, char_ranges, floor, range_cuts}
 pub use Rattle.cs_syntax.specs.Determinism.{HasOneParse}
 pub use Rattle.cs_syntax.specs.Escapes.{char_by_number, char_token, control_char, escape, escaped_char, escaped_class, escaped_tree, hex_char, hex_char_in_braces, is_unsupported_escape, octal_char}
 pub use Rattle.cs_syntax.specs.Groups.{after_flags, cleared_flags, group, head, name, set_flags, with_cleared, with_set}

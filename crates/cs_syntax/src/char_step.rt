@@ -1,6 +1,6 @@
 // Characters of a line, found byte by byte: their steps, and the cuts of their numbers.
 ghost use Rattle.std.specs.Prelude.{◌≡◌, ℕ, ◌+◌, ◌*◌, ◌-◌, ◌^◌, ◌<◌, ◌≤◌, ◌++◌, IfOk, OnOk, length, slice_index};
-ghost use Rattle.cs_syntax.specs.Cited.{finished, unfinished_after, char_step, continued, is_split, unfinished_in, least_with, tree_of, trees_of, AreCutsOf, floor, range_cuts, char_ranges, all_char_ranges, AreCanonical};
+ghost use Rattle.cs_syntax.specs.Cited.{finished, unfinished_after, char_step, continued, is_split, unfinished_in, least_with, tree_of, AreCutsOf, floor, range_cuts, char_ranges, AreCanonical};
 
 use crate::char_set::is_scalar;
 use crate::node::Node;
@@ -199,30 +199,18 @@ fn least_with(count: u8) -> u32
 }
 
 /// Adds the cuts of the sets of characters of the tree.
-#[cycle(add_cuts)]
 fn add_tree(tree: &Node, cuts: &mut Vec<u32>) -> Result<(), AllocError>
     ensures { OnOk result (cuts.new.items ≡ cuts.old.items ++ range_cuts (char_ranges (tree_of tree.now))) }
 {
     match tree {
-        Node::Cat(parts) | Node::Alt(parts) => add_trees(parts, cuts),
-        Node::Rep(x, _, _) => add_tree(x, cuts),
-        Node::Chars(set) => add_ranges(set.runs(), cuts),
-        Node::Empty
-        | Node::Set(_)
-        | Node::LineStart
-        | Node::LineEnd
-        | Node::WordEdge
-        | Node::NotWordEdge => Ok(()),
-    }
-}
-
-#[cycle(add_cuts)]
-fn add_trees(trees: &[Node], cuts: &mut Vec<u32>) -> Result<(), AllocError>
-    ensures { OnOk result (cuts.new.items
-        ≡ cuts.old.items ++ range_cuts (all_char_ranges (trees_of trees.now))) }
-{
-    for tree in trees {
-        add_tree(tree, cuts)?;
+        Node::Cat(parts) | Node::Alt(parts) => {
+            for part in parts {
+                add_tree(part, cuts)?;
+            }
+        }
+        Node::Rep(x, _, _) => add_tree(x, cuts)?,
+        Node::Chars(set) => add_ranges(set.runs(), cuts)?,
+        _ => {}
     }
     Ok(())
 }

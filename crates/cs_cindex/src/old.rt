@@ -1,5 +1,5 @@
 // The base index: the index that a job updates.
-ghost use Rattle.std.specs.Prelude.{◌≡◌, ℕ, List, Some, false, map, string_bytes, IfErr, IfOk};
+ghost use Rattle.std.specs.Prelude.{◌≡◌, ℕ, List, Some, false, IfErr, IfOk};
 ghost use Rattle.std.specs.List.{list_all};
 ghost use Rattle.cs_cindex.specs.Cited.{OpensAsTables, AreIndexNames, are_distinct, KeepsStore, OnlyReads, OpensBase, IsFit, is_failed_write};
 ghost use Rattle.cs_tree.specs.Cleaning.{is_normalized as is_normalized'};
@@ -68,15 +68,4 @@ fn are_normalized(paths: Texts<'_>) -> bool
         }
     }
     true
-}
-
-/// Copies of the paths.
-pub(crate) fn copied(alloc: Global, paths: Texts<'_>) -> Result<Vec<String>, AllocError>
-    ensures { IfOk result (λ copies. map string_bytes copies.items ≡ paths.entry) }
-{
-    let mut copies = Vec::new(alloc);
-    'paths: for path in paths {
-        copies.push(String::from_str(alloc, path)?)?;
-    }
-    Ok(copies)
 }

@@ -5,7 +5,7 @@ ghost use Rattle.cs_tree.specs.PathSet as set;
 
 use crate::indexer::index_paths;
 use crate::job::JobCall;
-use crate::old::{copied, open_old};
+use crate::old::open_old;
 use cs_args::{CindexFault, IndexJob};
 use cs_index::{Index, IndexFault, Tables};
 use cs_merge::{MergeFault, is_replaced, is_whole_stored, merge_stored};
@@ -158,7 +158,8 @@ fn paths_to_walk(
         let paths = reduce(alloc, given)?;
         return Ok(paths);
     }
-    let recorded = copied(alloc, tables.paths())?;
+    let mut recorded = Vec::new(alloc);
+    tables.paths().append_to(alloc, &mut recorded)?;
     let paths = reduce(alloc, &recorded)?;
     Ok(paths)
 }

@@ -185,6 +185,18 @@ echo 'a last marker' >> f599
 sleep 3.2
 gives 0 'cs --update'
 holds "[ '$state' -nt '$fresh/state' ] && [ \"\$(cs -c marker)\" = f599:2 ]"
+# the first state of a large project is joined from the states of its parts, with the bytes of one that is made in two updates
+mkdir -p "$HOME/parts/.git" && cd "$HOME/parts" || exit 2
+state=$PWD/.git/codesearch/state
+seq 13000000 > a
+sleep 3.2
+gives 0 'cs --update'
+seq 3000 > b && printf 'b\0inary' > c && echo 'a last marker' > d
+sleep 3.2
+gives 0 'cs --update'
+holds "is_state '$state' && mv '$state' '$fresh/state'"
+gives 0 'cs --update'
+holds "cmp '$state' '$fresh/state' && [ \"\$(cs marker)\" = 'd:a last marker' ] && [ \"\$(ls -A .git/codesearch)\" = state ]"
 cd "$HOME/few" && gives 0 'cs "line 7$"' && holds '[ ! -e .git/codesearch ]'
 # what a file .git names is not written to, nor is a plain folder
 cd "$HOME/file" && gives 1 'cs nowhere' && holds '[ -z "$(ls -A ../named)" ]'

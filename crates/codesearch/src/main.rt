@@ -18,7 +18,8 @@
 //!
 //! `cs` is `run_project` of `cs_fresh` over the disk (`project.rt`), with the state of the project
 //! as its knowledge: `state_folder.rt` says where that is, and `project_state.rt` makes it after
-//! the output, or takes it away.
+//! the output, or takes it away. The first state of a large project is joined from those of its
+//! parts, each in a `PartFile`.
 #![tactic(auto)]
 
 ghost use Rattle.std.specs.Prelude.{◌≡◌};
@@ -31,6 +32,7 @@ mod execution;
 mod given;
 mod laws;
 mod outcome;
+mod part_file;
 mod progress;
 mod project;
 mod project_state;

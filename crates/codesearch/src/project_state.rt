@@ -1,6 +1,7 @@
 // The state of a project on the disk.
-ghost use Rattle.std.specs.Prelude.{◌≡◌, ◌≤◌, [], length};
+ghost use Rattle.std.specs.Prelude.{◌≡◌, ◌≤◌, ◌<◌, [], length};
 
+use crate::part_file::PartFile;
 use crate::progress::{CountedTree, ProgressLine};
 use crate::state_folder::{StateFolder, project_root};
 use cs_learned::{ClosedState, StateKnowledge};
@@ -10,18 +11,26 @@ use cs_storage::{
     DiskFolder, DiskIndex, IndexFolder, IndexUpdate, NewFile, StorageFault, begin_update,
     finish_update, replace_file,
 };
-use cs_tree::{DiskTree, StdSink, Store, Tree, write_all};
-use cs_update::{SeenFile, UpdateCall, UpdateFault, first_state, is_due, update_state};
+use cs_tree::{DiskStore, DiskTree, StdSink, Store, Tree, write_all};
+use cs_update::{SeenFile, StateParts, UpdateCall, UpdateFault, first_state, is_due, update_state};
 use std::alloc::AllocError;
+use std::fs::File;
 use std::io::IsTerminal;
 use std::time::SystemTime;
 
-/// The bytes of the files that are learned at once, unless there are too many batches. Their
-/// postings take a fifth of that in memory.
+/// The bytes of the files of a batch, unless there are too many batches: each is merged with the
+/// old state. Their postings take a fifth of that in memory.
 const BATCH: u64 = 300_000_000;
 
-/// The most batches: each is merged with the state.
-const MOST_BATCHES: usize = 16;
+/// About the most batches.
+const MOST_BATCHES: u64 = 16;
+
+/// The bytes of the files of a part of a first state, unless there are too many parts: the tables
+/// of all are in memory when they are joined.
+const PART: u64 = 90_000_000;
+
+/// About the most parts.
+const MOST_PARTS: u64 = 64;
 
 /// A folder for the state of a project, and the state file that was opened there.
 #[derive(Drop)]
@@ -58,8 +67,8 @@ impl FoundState {
         finish_update(&mut self.storage, &IndexUpdate::Remove)
     }
 
-    /// Stores what is learned of files, a batch at a time, so that little memory is taken: over the
-    /// old state, or as a first one.
+    /// Stores what is learned of files over the old state, or as a first one. So that little memory
+    /// is taken, an update learns a batch at a time, and a first state is joined from parts.
     fn learn(
         &mut self,
         rt: &HostRuntime,
@@ -73,28 +82,40 @@ impl FoundState {
             inner: DiskTree::of_files(rt.clone()?),
             progress: &progress,
         };
-        let most = batch_size(files);
-        let mut rest = files;
-        let mut learned = Ok(());
-        for at in 0..MOST_BATCHES {
-            let (batch, later) = rest.split_at(batch_len(rest, most));
-            let old = if is_open || at > 0 {
-                self.closed()
-            } else {
-                None
-            };
-            learned = self.store(rt, root, batch, old, &mut tree);
-            rest = later;
-            if learned.is_err() || rest.is_empty() {
-                break;
-            }
-            self.file = self.storage.look()?;
-        }
+        let learned = if is_open {
+            self.update(rt, root, files, &mut tree)
+        } else {
+            self.store(rt, root, files, None, &mut tree)
+        };
         progress.erase();
         learned
     }
 
-    /// Stores what is learned of a batch of files. A damaged state is taken away.
+    /// Updates the state that was opened, by a batch of files at a time.
+    fn update<T: Tree>(
+        &mut self,
+        rt: &HostRuntime,
+        root: &str,
+        files: &[SeenFile],
+        tree: &mut T,
+    ) -> Result<(), StorageFault> {
+        let most = batch_size(files, BATCH, MOST_BATCHES);
+        let mut rest = files;
+        for _ in 0..files.len() {
+            let (batch, later) = rest.split_at(batch_len(rest, most));
+            let old = self.closed();
+            self.store(rt, root, batch, old, tree)?;
+            rest = later;
+            if rest.is_empty() {
+                break;
+            }
+            self.file = self.storage.look()?;
+        }
+        Ok(())
+    }
+
+    /// Stores what is learned of files over the old state, or as a first one. A damaged state is
+    /// taken away.
     fn store<T: Tree>(
         &mut self,
         rt: &HostRuntime,
@@ -103,6 +124,7 @@ impl FoundState {
         old: Option<ClosedState<DiskIndex>>,
         tree: &mut T,
     ) -> Result<(), StorageFault> {
+        let part = self.home.part_path(rt.alloc())?;
         begin_update(&mut self.storage)?;
         let written = match self.storage.moment() {
             Some(moment) => {
@@ -112,7 +134,11 @@ impl FoundState {
                     files,
                     moment,
                 };
-                write_state(&call, old, tree, NewFile::new(&mut self.storage))
+                let out = NewFile::new(&mut self.storage);
+                match old {
+                    Some(old) => write_update(&call, old, tree, out),
+                    None => write_first(rt, &call, part.as_str(), tree, out),
+                }
             }
             None => Err(UpdateFault::Memory),
         };
@@ -127,19 +153,15 @@ impl FoundState {
     }
 }
 
-/// Gives an output the old state, updated by what is learned of files, or a first one.
-fn write_state<T: Tree, O: Output + Drop>(
+/// Gives an output the old state, updated by what is learned of files.
+fn write_update<T: Tree, O: Output + Drop>(
     call: &UpdateCall<'_>,
-    old: Option<ClosedState<DiskIndex>>,
+    old: ClosedState<DiskIndex>,
     tree: &mut T,
     out: O,
 ) -> Result<(), UpdateFault>
     requires { O.given out ≡ [] }
 {
-    let Some(old) = old else {
-        let _out = first_state(call, tree, out)?;
-        return Ok(());
-    };
     let Some(state) = StateFile::open(call.alloc, old.file)? else {
         return Err(UpdateFault::BadState);
     };
@@ -147,13 +169,66 @@ fn write_state<T: Tree, O: Output + Drop>(
     Ok(())
 }
 
-/// The number of bytes of a batch of files.
-fn batch_size(files: &[SeenFile]) -> u64 {
+/// Gives an output the first state: at once, or joined from the states of parts, each in a file at
+/// this path.
+fn write_first<T: Tree, O: Output + Drop>(
+    rt: &HostRuntime,
+    call: &UpdateCall<'_>,
+    part: &str,
+    tree: &mut T,
+    out: O,
+) -> Result<(), UpdateFault>
+    requires { O.given out ≡ [] }
+{
+    let most = batch_size(call.files, PART, MOST_PARTS);
+    if batch_len(call.files, most) == call.files.len() {
+        let _out = first_state(call, tree, out)?;
+        return Ok(());
+    }
+    let mut stores = Vec::new(call.alloc);
+    let mut rest = call.files;
+    for _ in 0..call.files.len() {
+        let (files, later) = rest.split_at(batch_len(rest, most));
+        stores.push(write_part(rt, &UpdateCall { files, ..*call }, part, tree)?)?;
+        rest = later;
+        if rest.is_empty() {
+            break;
+        }
+    }
+    let mut parts = StateParts::new(call.alloc);
+    for (file, again) in stores {
+        parts.add(call.alloc, file, again)?;
+    }
+    let _out = parts.join(call.alloc, out)?;
+    Ok(())
+}
+
+/// The first state of a part of the files, in a file that has this path for a moment, opened twice.
+fn write_part<T: Tree>(
+    rt: &HostRuntime,
+    call: &UpdateCall<'_>,
+    path: &str,
+    tree: &mut T,
+) -> Result<(DiskStore<File>, DiskStore<File>), UpdateFault> {
+    let Ok(file) = PartFile::make(rt, path) else {
+        return Err(UpdateFault::Memory);
+    };
+    let file = first_state(call, tree, file)?;
+    match file.stores() {
+        Ok(stores) => Ok(stores),
+        Err(_) => Err(UpdateFault::Memory),
+    }
+}
+
+/// The number of bytes of a batch of files: so many, or more if there are too many batches.
+fn batch_size(files: &[SeenFile], least: u64, most_batches: u64) -> u64
+    requires { 0 < most_batches }
+{
     let mut len: u64 = 0;
     for file in files {
         len = len.saturating_add(file.stamp.size);
     }
-    BATCH.max(len / (MOST_BATCHES as u64 - 1))
+    least.max(len / most_batches)
 }
 
 /// The number of files of the first batch: at least one, and all up to so many bytes.

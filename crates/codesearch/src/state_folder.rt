@@ -84,6 +84,12 @@ impl StateFolder {
         IndexPaths::of_file(alloc, file.as_str())
     }
 
+    /// The path of the file of a part of a first state.
+    pub(crate) fn part_path(&self, alloc: Global) -> Result<String, AllocError> {
+        let folder = self.path.as_str();
+        format!(in alloc; "{folder}/state~part")
+    }
+
     /// Makes the folder, if it is not there. Whether that works shows when the file is made.
     pub(crate) fn make(&self, rt: &HostRuntime) {
         let mut maker = DirBuilder::new();

@@ -410,7 +410,7 @@ fn merge_failing(
 }
 
 /// The number of reads of `merge_failing`.
-const READS: usize = 12;
+const READS: usize = 7;
 
 #[test]
 fn merges_whose_reads_fail(rt: HostRuntime) -> Result<(), Fail> {

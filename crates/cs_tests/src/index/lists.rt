@@ -127,7 +127,7 @@ fn first_list(
 }
 
 /// The number of reads of `first_list`.
-const READS: usize = 12;
+const READS: usize = 7;
 
 #[test]
 fn reads_that_fail(rt: HostRuntime) {

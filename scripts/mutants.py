@@ -81,7 +81,7 @@ def function(crate, path, old):
 
 
 def contract(crate, path, old):
-    """The signature and the contract of the function that contains a text; elsewhere the text of the file."""
+    """The signature and the contract of the function that contains a text, whatever their layout; elsewhere the text of the file."""
     text = (crate / path).read_text()
     found = [*FUNCTION.finditer(text.partition(old)[0])] if path.startswith("src/") else []
     if not found:
@@ -91,7 +91,7 @@ def contract(crate, path, old):
         if line.strip() in ("{", "{}") or (line.endswith(" {") and not any("ensures" in it for it in kept)):
             break
         kept.append(line)
-    return "\n".join(kept)
+    return " ".join(" ".join(kept).split())
 
 
 def contract_sum(crate, mutant):

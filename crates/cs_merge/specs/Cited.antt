@@ -25,7 +25,7 @@ pub use Rattle.cs_merge.specs.Content.{DecodesAsContent, HasContent, IsContent, 
 pub use Rattle.cs_merge.specs.IdMap.{AreByRank, AreDropped, AreIdMaps, AreMergedNames, AreScattered, IsIncreasing, IsMergingNames, IsRun, new_ids_of, new_ids_read}
 pub use Rattle.cs_merge.specs.Join.{IsJoinAnswer, joined_entries}
 pub use Rattle.cs_merge.specs.Joining.{AreJoining, AreNamesWritten, IsFrom, IsJoinBegun, IsJoinListsFault, IsJoiningList, IsListJoined, IsNamesFault, IsReady, IsStoredPart, IsUnread, KeepsPart, SomeHas, lists_left, part_names, part_paths, part_trigram}
-pub use Rattle.cs_merge.specs.ListMerge.{AreDistinctIds, AreLeft, BeginFrom, IsBelow, IsListAnswer, IsMergedList, IsRunOf, IsWrittenBelow, ids_after, list_ids, list_trigram, lower_of, new_of, position_after, without_number}
+pub use Rattle.cs_merge.specs.ListMerge.{AreDistinctIds, AreLeft, BeginFrom, IsBelow, IsListAnswer, IsMergedList, IsRunOf, IsWrittenBelow, MayFollow, ids_after, list_ids, list_trigram, lower_of, new_of, position_after, without_number}
 pub use Rattle.cs_merge.specs.ListsFault.{IsListsFault, are_whole_from, rest_fault}
 pub use Rattle.cs_merge.specs.Merge.{merge_files, merge_paths}
 pub use Rattle.cs_merge.specs.MergeResult.{IsBuildFault, IsGivenIndex, IsIndexWithin, IsMergeAnswer, IsMergeFault, IsMerged, most_bytes}

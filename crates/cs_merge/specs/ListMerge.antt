@@ -5,7 +5,7 @@ use Rattle.std.specs.Option.{option_map_or}
 use Rattle.cs_trigram.specs.Trigram.{has}
 use Rattle.cs_index.specs.AscendingIds.{next_after, AscendWithin, BeginsFrom, ids_onward}
 use Rattle.cs_index.specs.Encoding.{ListEntry, PostingList}
-use Rattle.cs_index.specs.Written.{Written, AllBelow, with_last_ids}
+use Rattle.cs_index.specs.Written.{Written, AllBelow, last_ids, with_last_ids}
 use Rattle.cs_index.specs.OpenedParts.{Parts, ids_read, lists_in}
 use Rattle.cs_trigram.specs.TrigramSets.{AreDistinct}
 use Rattle.cs_index.specs.PostingLists.{Ids}
@@ -55,6 +55,10 @@ BeginFrom (Some most) ids = BeginsFrom most ids
 -- the answer of reading a list: there is one if it is whole
 abbrev pub IsListAnswer : {A : Type 0} → Bool → Result A IndexFault → Type 0
 IsListAnswer whole answer = MatchResult answer (λ _. whole ≡ true) (IsListFault whole)
+
+-- the ids ascend, are those of names, and are above the last one of the list that was begun last
+abbrev pub MayFollow : Written → List ℕ → Type 0
+MayFollow sections ids = AscendWithin (length sections.names) (next_after 0 (last_ids sections)) ids
 
 -- Ids that a list begins with, all below the limit, are appended to the list that was begun last.
 pub record IsWrittenBelow (limit : Option ℕ) (before now : Written) (ids left : List ℕ) : Type 0 where

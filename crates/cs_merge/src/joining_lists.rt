@@ -2,7 +2,7 @@
 // then that of the second one, and so on.
 ghost use Rattle.std.specs.Prelude.{◌≡◌, ◌≢◌, ◌<◌, ◌≤◌, ◌+◌, ◌⊎◌, ℕ, List, [], true, false, None, Some, length, IfOk, IfSome, MatchResult, OnOk};
 ghost use Rattle.std.specs.List.{AllByRecursion, AllZip, list_all};
-ghost use Rattle.cs_merge.specs.Cited.{AllBelow, AreJoining, AreRead, AscendWithin, IsFrom, IsJoinListsFault, IsJoiningList, IsListJoined, IsReady, IsSentOn, IsStoredPart, IsUnread, KeepsPart, Parts, SomeHas, are_whole, closing_trigram, ids_onward, joined_entries, entries_written, last_ids, lists_left, max_ids, next_after, part_names, part_trigram, with_last_ids};
+ghost use Rattle.cs_merge.specs.Cited.{AllBelow, AreJoining, AreRead, IsFrom, IsJoinListsFault, IsJoiningList, IsListJoined, IsReady, IsSentOn, IsStoredPart, IsUnread, KeepsPart, MayFollow, Parts, SomeHas, are_whole, closing_trigram, ids_onward, joined_entries, entries_written, lists_left, max_ids, part_names, part_trigram, with_last_ids};
 
 use crate::fault::MergeFault;
 use crate::merging_lists::lower;
@@ -169,8 +169,7 @@ fn join_list<S: Store>(
 /// others are copied as far as their deltas are short. False if the list is damaged.
 fn append_ids(sections: &mut Sections, ids: Postings<'_>, first: u32) -> Result<bool, AllocError>
     requires begun { (sections.old.last_trigram ≢ None) ⊎ (ids.ids ≡ []) }
-    requires rise { AscendWithin (length sections.old.names)
-        (next_after 0 (last_ids sections.old)) (ids_onward first ids.ids) }
+    requires rise { MayFollow sections.old (ids_onward first ids.ids) }
     requires bound { length sections.old.names < max_ids }
     ensures ids { IfOk result (λ whole. whole ≡ true →
         sections.new ≡ with_last_ids sections.old (ids_onward first ids.entry.ids)) }

@@ -196,8 +196,7 @@ fn begin_paths(alloc: Global, old: Texts<'_>, newer: Texts<'_>) -> Result<Sectio
 /// An index of the paths that no other path covers, which has no names and no lists yet.
 pub(crate) fn begin_least(alloc: Global, paths: &[String]) -> Result<Sections, AllocError>
     requires { AllByRecursion IsString (map string_bytes paths.now) }
-    ensures { IfOk result (IsBegunWith
-        (set.items (least (set.from_list (map string_bytes paths.now))))) }
+    ensures { IfOk result (IsBegunWith (set.items (least (set.from_list (map string_bytes paths.now))))) }
 {
     let kept = reduce(alloc, paths)?;
     match Sections::new(alloc, &kept) {

@@ -1,7 +1,7 @@
 // The merge of the posting lists of one trigram: a two-way merge by id that copies long runs.
 ghost use Rattle.std.specs.Prelude.{◌≡◌, ◌≢◌, ◌⊎◌, ◌<◌, ◌^◌, ◌&&◌, ◌++◌, ◌≤◌, [], ◌∷◌, true, false, Some, None, drop, length, take, slice_get, IfErr, IfOk, OnOk};
 ghost use Rattle.std.specs.List.{AllByRecursion};
-ghost use Rattle.cs_merge.specs.Cited.{closing_trigram, last_ids, AllBelow, IsListFault, next_after, AscendWithin, IsIncreasing, lower_of, AreDistinctIds, IsWrittenBelow, BeginFrom, IsBelow, IsListAnswer, IsMergedList, without_number};
+ghost use Rattle.cs_merge.specs.Cited.{closing_trigram, AllBelow, IsListFault, AscendWithin, MayFollow, IsIncreasing, lower_of, AreDistinctIds, IsWrittenBelow, BeginFrom, IsBelow, IsListAnswer, IsMergedList, without_number};
 
 use crate::id_map::{IdMaps, IdRuns};
 use crate::mapped_postings::MappedPostings;
@@ -104,8 +104,7 @@ fn write_both(
     requires older_rise { AscendWithin (length sections.old.names) 0 older.now }
     requires newer_rise { AscendWithin (length sections.old.names) 0 newer.now }
     requires below { (trigram < closing_trigram) ⊎ ((older.now ≡ []) × (newer.now ≡ [])) }
-    ensures { OnOk result
-        (IsMergedList trigram sections.old sections.new older.now newer.now [] []) }
+    ensures { OnOk result (IsMergedList trigram sections.old sections.new older.now newer.now [] []) }
 {
     if older.is_empty() && newer.is_empty() {
         return Ok(());
@@ -131,8 +130,7 @@ fn write_ids(
 ) -> Result<usize, AllocError>
     requires within { at ≤ length ids.now }
     requires begun { sections.old.last_trigram ≢ None }
-    requires rise { AscendWithin (length sections.old.names)
-        (next_after 0 (last_ids sections.old)) (drop at ids.now) }
+    requires rise { MayFollow sections.old (drop at ids.now) }
     ensures ok { IfOk result (λ end. IsWrittenBelow limit sections.old sections.new
         (drop at ids.now) (drop end ids.now)) }
     ensures left { IfOk result (λ end. BeginFrom limit (drop end ids.now)) }
@@ -207,10 +205,8 @@ fn write_below(
     limit: Option<u32>,
 ) -> Result<(), IndexFault>
     requires begun { sections.old.last_trigram ≢ None }
-    requires rise { AscendWithin (length sections.old.names)
-        (next_after 0 (last_ids sections.old)) list.old.ids }
-    ensures ok { OnOk result
-        (IsWrittenBelow limit sections.old sections.new list.old.ids list.new.ids) }
+    requires rise { MayFollow sections.old list.old.ids }
+    ensures ok { OnOk result (IsWrittenBelow limit sections.old sections.new list.old.ids list.new.ids) }
     ensures left { OnOk result (BeginFrom limit list.new.ids) }
     ensures whole { OnOk result (list.new.whole ≡ list.old.whole) }
     ensures end { OnOk result (list.new.ids ≡ [] → list.new.whole ≡ true) }
@@ -237,10 +233,8 @@ fn write_next(
     requires first { slice_get list.old.ids 0 ≡ Some id }
     requires within { IsBelow limit id }
     requires begun { sections.old.last_trigram ≢ None }
-    requires rise { AscendWithin (length sections.old.names)
-        (next_after 0 (last_ids sections.old)) list.old.ids }
-    ensures ok { OnOk result
-        (IsWrittenBelow limit sections.old sections.new list.old.ids list.new.ids) }
+    requires rise { MayFollow sections.old list.old.ids }
+    ensures ok { OnOk result (IsWrittenBelow limit sections.old sections.new list.old.ids list.new.ids) }
     ensures fewer { OnOk result (length list.new.ids < length list.old.ids) }
     ensures whole { OnOk result (list.new.whole ≡ list.old.whole) }
     ensures fault { IfErr result (IsListFault list.old.whole) }

@@ -134,8 +134,7 @@ fn merge_next<S: Store>(
     ensures more { IfOk result (λ merged. IfOk merged (λ more. more ≡ true →
         progress.old.older + progress.old.newer < progress.new.older + progress.new.newer)) }
     ensures sent { IfOk result (λ merged. OnOk merged (sections.new.sent ≡ sections.old.sent)) }
-    ensures same { IfOk result
-        (λ merged. IfOk merged (λ more. more ≡ false → sections.new ≡ sections.old)) }
+    ensures same { IfOk result (λ merged. IfOk merged (λ more. more ≡ false → sections.new ≡ sections.old)) }
     ensures all { IfOk result (λ merged. IfOk merged (λ more. more ≡ false →
         next_trigram sides.now.older.now sides.now.newer.now progress.new.older progress.new.newer ≡ None)) }
     ensures fault { (old : Parts) → IsStored (S.model store.old) sides.now.older.now old →

@@ -8,12 +8,13 @@ use Rattle.cs_tree.specs.declared.fault.IoFault.{IoFault}
 use Rattle.cs_match.specs.Deciding.{Decides}
 use Rattle.cs_match.specs.Lines.{newline}
 use Rattle.cs_index.specs.OpenedParts.{Parts}
+use Rattle.cs_index.specs.Stored.{StoredParts, StandsIn}
 use Rattle.cs_index.specs.Answerable.{is_answerable}
 use Rattle.cs_index.specs.Candidates.{candidates_of}
 use Rattle.cs_index.specs.declared.fault.IndexFault.{IndexFault}
 use Rattle.cs_index.specs.declared.fault.IndexFault.TheVariants.{BadList}
 use Rattle.cs_index.specs.NameReading.{ReadsNames}
-use Rattle.cs_search.specs.IndexSearch.{AreKept, matcher_tree}
+use Rattle.cs_search.specs.IndexSearch.{AreKept, matcher_tree, names_at}
 use Rattle.cs_search.specs.declared.stored.Plan.{Plan}
 use Rattle.cs_search.specs.declared.selection.Selection.{Selection}
 
@@ -28,6 +29,10 @@ SelectsMore model ids old new result = (bytes : List ℕ) (parts : Parts) (done 
     HasSelected bytes parts done old → All (λ id. id < length parts.names) ids →
     IfOk result (λ answer. IsOkAnd answer (λ _. HasSelected bytes parts (done ++ ids) new))
 
+-- `Claim` holds of the parts of the index, if these are what the store's model has
+abbrev pub IfStandsIn : Option (List ℕ) → StoredParts → (Parts → Type 0) → Type 0
+IfStandsIn model index Claim = (bytes : List ℕ) (parts : Parts) → model ≡ Some bytes → StandsIn bytes index parts → Claim parts
+
 -- the names, each with a newline after it
 abbrev pub as_lines : List (List ℕ) → List ℕ
 as_lines names = flat_map (λ name. name ++ newline ∷ []) names
@@ -35,6 +40,13 @@ as_lines names = flat_map (λ name. name ++ newline ∷ []) names
 -- the block has these names, which are UTF-8, each with a newline after it
 abbrev pub IsBlockOf : List (List ℕ) → List ℕ → Type 0
 IsBlockOf names block = (block ≡ as_lines names) × AllByRecursion IsUtf8 names
+
+-- the names with these ids were read into a block
+abbrev pub ReadsBlock : Option (List ℕ) → NameReader → NameReader → List ℕ →
+    Result (Result (Vec ℕ Global) IndexFault) IoFault → Type 0
+ReadsBlock model old new ids result = (bytes : List ℕ) (parts : Parts) → model ≡ Some bytes →
+    ReadsNames bytes parts old → All (λ id. id < length parts.names) ids → IfOk result (λ answer. IsOkAnd answer
+    (λ block. ReadsNames bytes parts new × IsBlockOf (names_at parts.names ids) block.items))
 
 -- those of the lines that the tree matches were pushed
 abbrev pub PushesMatching : Tree → List (List ℕ) → List (String Global) → List (String Global) → Type 0

@@ -1,5 +1,5 @@
 -- Inside a search: which lines were tested, and what was printed for them.
-use Rattle.std.specs.Prelude.{ℕ, ◌+◌, ◌<◌, ◌≤◌, ◌≡◌, ◌^◌, ◌⊎◌, nat_lt, true, false, if◌then◌else◌, Bool, List, [], ◌∷◌, ◌++◌, length, Option, Result, MatchBool, MatchResult}
+use Rattle.std.specs.Prelude.{ℕ, ◌+◌, ◌<◌, ◌≤◌, ◌≡◌, ◌^◌, ◌⊎◌, nat_lt, true, false, if◌then◌else◌, Bool, List, [], ◌∷◌, ◌++◌, length, Option, Result, IfOk, IfSome, MatchBool, MatchResult}
 use Rattle.std.specs.List.{flat_map}
 use Rattle.cs_tree.specs.FailureCount.{count_after}
 use Rattle.cs_tree.specs.Sinks.{Grows, SinkModel}
@@ -12,6 +12,7 @@ use Rattle.cs_match.specs.Deciding.{Decides}
 use Rattle.cs_match.specs.Lines.{newline, terminated_lines}
 use Rattle.cs_match.specs.Skipping.{AreWholeLines}
 use Rattle.cs_tree.specs.TakesPrefix.{TakesPrefix}
+use Rattle.cs_tree.specs.WritesBytes.{WritesBytes}
 use Rattle.cs_search.specs.Report.{MatchingLine, matches_from, match_line, count_line, any_match, matches_output}
 
 -- `Claim` holds of the output before and after, and of the result; and the output counts a failed write.
@@ -19,6 +20,10 @@ abbrev pub WritesTo : {O A : Type 0} → (O → Option SinkModel) → (O → ℕ
     (Option SinkModel → Option SinkModel → Result A GrepFault → Type 0) → Type 0
 WritesTo model failed out out' result Claim =
     Claim (model out) (model out') result × (failed out' ≡ count_after is_grep_failure result (failed out))
+
+-- this text was written, or on error a prefix of it
+abbrev pub WritesText : {O A : Type 0} → (O → Option SinkModel) → (O → ℕ) → O → O → Result A GrepFault → List ℕ → Type 0
+WritesText model failed out out' result text = WritesTo model failed out out' result (WritesBytes text)
 
 -- what is printed for a matching line
 unfoldable pub match_output : Style → List ℕ → MatchingLine → List ℕ
@@ -45,6 +50,14 @@ IsUnlisted style tally = style.list ≡ true → tally.matches ≡ 0
 -- the search goes on after a block
 abbrev pub GoesOn : Style → Tally → Tally → List ℕ → Type 0
 GoesOn style before after block = CountsBlock style before after block × IsUnlisted style after
+
+-- `P` holds, unless a line was listed, which ends the search
+abbrev pub IfUnlisted : Result Bool GrepFault → Type 0 → Type 0
+IfUnlisted result P = IfOk result (λ listed. listed ≡ false → P)
+
+-- the same, where the answer has the offset at which the search goes on
+abbrev pub IfUnended : Result (Option ℕ) GrepFault → (ℕ → Type 0) → Type 0
+IfUnended result Claim = IfOk result (λ answer. IfSome answer Claim)
 
 abbrev pub HasCountedNone : Tally → Type 0
 HasCountedNone tally = (tally.lines ≡ 0) × (tally.matches ≡ 0)

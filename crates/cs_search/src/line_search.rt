@@ -1,6 +1,6 @@
 // Searches of lines, and of blocks of lines.
-ghost use Rattle.std.specs.Prelude.{◌≡◌, ◌≤◌, ◌<◌, ◌+◌, ◌-◌, ◌*◌, ◌^◌, ◌∷◌, [], ℕ, Bool, true, false, is_none, List, OnOk, IfOk, IfSome, length, take, drop, slice_range, count_by};
-ghost use Rattle.cs_search.specs.Cited.{is_grep_failure, count_after, Decides, terminated_lines, HasNoNewline, AreWholeLines, last_part, matching_ends, AreLinesBetween, line_work, SameNumber, CountsBlock, IsUnlisted, IsNextBlock, GoesOn, WritesTo, TestsBy, TestsBlock, searched_work, StepsWithin, ended_work};
+ghost use Rattle.std.specs.Prelude.{◌≡◌, ◌≤◌, ◌<◌, ◌+◌, ◌-◌, ◌*◌, ◌^◌, ◌∷◌, [], ℕ, Bool, true, false, is_none, List, OnOk, IfOk, length, take, drop, slice_range, count_by};
+ghost use Rattle.cs_search.specs.Cited.{is_grep_failure, count_after, Decides, terminated_lines, HasNoNewline, AreWholeLines, last_part, matching_ends, AreLinesBetween, line_work, SameNumber, CountsBlock, IsUnlisted, IsNextBlock, GoesOn, IfUnended, IfUnlisted, WritesTo, TestsBy, TestsBlock, searched_work, StepsWithin, ended_work};
 
 use crate::printer::Printer;
 use crate::status::{GrepFault, Tally, newlines};
@@ -156,8 +156,7 @@ fn list_name<O: Sink>(
     requires block { IsNextBlock tally.old block.now }
     requires lists { printer.now.style.list ≡ true }
     requires unlisted { tally.old.matches ≡ 0 }
-    ensures goes_on { IfOk result (λ listed. listed ≡ false →
-        GoesOn printer.now.style tally.old tally.new block.now) }
+    ensures goes_on { IfUnlisted result (GoesOn printer.now.style tally.old tally.new block.now) }
     ensures tests { WritesTo O.model O.failed out.old out.new result (TestsBlock (λ listed. listed)
         matcher.old.tree printer.now.style printer.now.name.now block.now tally.old tally.new) }
     ensures work { StepsWithin (searched_work matcher.old.tree (length block.now)) matcher.old matcher.new }
@@ -186,8 +185,7 @@ fn search_lines<O: Sink>(
 ) -> Result<bool, GrepFault>
     requires block { IsNextBlock tally.old block.now }
     requires unlisted { IsUnlisted printer.now.style tally.old }
-    ensures goes_on { IfOk result (λ listed. listed ≡ false →
-        GoesOn printer.now.style tally.old tally.new block.now) }
+    ensures goes_on { IfUnlisted result (GoesOn printer.now.style tally.old tally.new block.now) }
     ensures tests { WritesTo O.model O.failed out.old out.new result (TestsBlock (λ listed. listed)
         matcher.old.tree printer.now.style printer.now.name.now block.now tally.old tally.new) }
     ensures work { StepsWithin (searched_work matcher.old.tree (length block.now)) matcher.old matcher.new }
@@ -220,10 +218,9 @@ pub(crate) fn search_block<O: Sink>(
     requires scanned { HasNoNewline (take scanned block.now) }
     requires room { tally.old.lines + length block.now < 2 ^ 64 }
     requires unlisted { IsUnlisted printer.now.style tally.old }
-    ensures rest { IfOk result (λ answer. IfSome answer
-        (λ start. (start ≤ length block.now) × (drop start block.now ≡ last_part block.now))) }
-    ensures goes_on { IfOk result (λ answer. IfSome answer
-        (λ _. GoesOn printer.now.style tally.old tally.new block.now)) }
+    ensures rest { IfUnended result (λ start. (start ≤ length block.now)
+        × (drop start block.now ≡ last_part block.now)) }
+    ensures goes_on { IfUnended result (λ _. GoesOn printer.now.style tally.old tally.new block.now) }
     ensures tests { WritesTo O.model O.failed out.old out.new result (TestsBlock is_none
         matcher.old.tree printer.now.style printer.now.name.now block.now tally.old tally.new) }
     ensures work { StepsWithin (ended_work matcher.old.tree block.now + (length block.now - scanned))

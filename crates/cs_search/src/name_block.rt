@@ -1,8 +1,8 @@
 // Names that are tested at once, as the lines of a block.
-ghost use Rattle.std.specs.Prelude.{◌≡◌, ◌<◌, ◌∷◌, ◌++◌, [], ℕ, List, Some, All, IfOk, IsUtf8, get_or, length};
+ghost use Rattle.std.specs.Prelude.{◌≡◌, ◌<◌, ◌∷◌, ◌++◌, [], ℕ, List, Some, IfOk, IsUtf8, get_or, length};
 ghost use Rattle.std.specs.List.{AllByRecursion};
 ghost use Rattle.std.specs.Result.{IsOkAnd};
-ghost use Rattle.cs_search.specs.Cited.{KeepsStore, Parts, ReadsNames, terminated_lines, AreWholeLines, names_at, IsBlockOf, PushesMatching};
+ghost use Rattle.cs_search.specs.Cited.{KeepsStore, Parts, ReadsNames, terminated_lines, AreWholeLines, IsBlockOf, PushesMatching, ReadsBlock};
 
 use cs_index::{IndexFault, NameReader};
 use cs_match::Matcher;
@@ -20,10 +20,7 @@ pub(crate) fn read_block<S: Store>(
     ids: &[u32],
 ) -> Result<Result<Vec<u8>, IndexFault>, IoFault>
     ensures whole { IfOk result (λ answer. IfOk answer (λ block. AreWholeLines block.items)) }
-    ensures read { (bytes : List ℕ) (parts : Parts) → S.model store.old ≡ Some bytes →
-        ReadsNames bytes parts reader.old → All (λ id. id < length parts.names) ids.now →
-        IfOk result (λ answer. IsOkAnd answer (λ block. ReadsNames bytes parts reader.new
-        × IsBlockOf (names_at parts.names ids.now) block.items)) }
+    ensures read { ReadsBlock (S.model store.old) reader.old reader.new ids.now result }
     ensures store { KeepsStore S.model S.size S.failed store.old store.new result }
 {
     let mut block = Vec::with_capacity(alloc, ids.len().saturating_mul(NAME_LEN))?;

@@ -1,6 +1,6 @@
 // How matching lines are printed.
 ghost use Rattle.std.specs.Prelude.{◌≡◌, ◌++◌, ◌∷◌, [], true, false, IsTrue, codes, decimal, if◌then◌else◌};
-ghost use Rattle.cs_search.specs.Cited.{newline, count_after, WritesBytes, is_grep_failure, count_line, match_line, WritesTo, match_output, total};
+ghost use Rattle.cs_search.specs.Cited.{newline, count_line, match_line, WritesText, match_output, total};
 
 use crate::status::GrepFault;
 use cs_args::Style;
@@ -23,8 +23,8 @@ impl Printer<'_> {
         line: &[u8],
         out: &mut O,
     ) -> Result<(), GrepFault>
-        ensures { WritesTo O.model O.failed out.old out.new result
-            (WritesBytes (match_output self.now.style self.now.name.now (number, line.now))) }
+        ensures { WritesText O.model O.failed out.old out.new result
+            (match_output self.now.style self.now.name.now (number, line.now)) }
     {
         if self.style.list {
             self.print_name(out)?;
@@ -40,8 +40,7 @@ impl Printer<'_> {
     /// The name on a line.
     #[tactic(auto, using(crate::proofs::Printing::printing))]
     pub(crate) fn print_name<O: Sink>(&self, out: &mut O) -> Result<(), GrepFault>
-        ensures { WritesTo O.model O.failed out.old out.new result
-            (WritesBytes (self.now.name.now ++ newline ∷ [])) }
+        ensures { WritesText O.model O.failed out.old out.new result (self.now.name.now ++ newline ∷ []) }
     {
         write_all(out, self.name.as_bytes())?;
         end_line(out)?;
@@ -51,8 +50,8 @@ impl Printer<'_> {
     /// The line, after the name and number that the style prints.
     #[tactic(auto, using(crate::proofs::Printing::printing), unfolding(crate::specs::Report::match_line))]
     fn print_line<O: Sink>(&self, number: u64, line: &[u8], out: &mut O) -> Result<(), GrepFault>
-        ensures { WritesTo O.model O.failed out.old out.new result
-            (WritesBytes (match_line self.now.style self.now.name.now (number, line.now))) }
+        ensures { WritesText O.model O.failed out.old out.new result
+            (match_line self.now.style self.now.name.now (number, line.now)) }
     {
         self.print_prefix(out)?;
         self.print_number(number, out)?;
@@ -64,8 +63,8 @@ impl Printer<'_> {
     /// `NAME:`, and nothing under `-h`.
     #[tactic(auto, using(crate::proofs::Printing::printing))]
     fn print_prefix<O: Sink>(&self, out: &mut O) -> Result<(), GrepFault>
-        ensures { WritesTo O.model O.failed out.old out.new result
-            (WritesBytes (if self.now.style.bare then [] else self.now.name.now ++ codes ":")) }
+        ensures { WritesText O.model O.failed out.old out.new result
+            (if self.now.style.bare then [] else self.now.name.now ++ codes ":") }
     {
         if self.style.bare {
             return Ok(());
@@ -78,8 +77,8 @@ impl Printer<'_> {
     /// `NUMBER:` under `-n`, else nothing.
     #[tactic(auto, using(crate::proofs::Printing::printing))]
     fn print_number<O: Sink>(&self, number: u64, out: &mut O) -> Result<(), GrepFault>
-        ensures { WritesTo O.model O.failed out.old out.new result
-            (WritesBytes (if self.now.style.number then decimal number ++ codes ":" else [])) }
+        ensures { WritesText O.model O.failed out.old out.new result
+            (if self.now.style.number then decimal number ++ codes ":" else []) }
     {
         if !self.style.number {
             return Ok(());
@@ -92,8 +91,8 @@ impl Printer<'_> {
     /// Prints the number of matching lines at the end of an input, under `-c` without `-l`.
     #[tactic(auto, using(crate::proofs::Printing::printing), unfolding(crate::specs::TestedLines::total))]
     pub(crate) fn print_total<O: Sink>(&self, count: u64, out: &mut O) -> Result<(), GrepFault>
-        ensures { WritesTo O.model O.failed out.old out.new result
-            (WritesBytes (total self.now.style self.now.name.now count)) }
+        ensures { WritesText O.model O.failed out.old out.new result
+            (total self.now.style self.now.name.now count) }
     {
         if self.style.list || !self.style.count || count == 0 {
             return Ok(());
@@ -105,8 +104,7 @@ impl Printer<'_> {
     /// `NAME: COUNT` on a line.
     #[tactic(auto, using(crate::proofs::Printing::printing), unfolding(crate::specs::Report::count_line))]
     fn print_count<O: Sink>(&self, count: u64, out: &mut O) -> Result<(), GrepFault>
-        ensures { WritesTo O.model O.failed out.old out.new result
-            (WritesBytes (count_line self.now.name.now count)) }
+        ensures { WritesText O.model O.failed out.old out.new result (count_line self.now.name.now count) }
     {
         write_all(out, self.name.as_bytes())?;
         write_all(out, b": ")?;
@@ -118,7 +116,7 @@ impl Printer<'_> {
 
 /// The number in decimal.
 fn write_number<O: Sink>(number: u64, out: &mut O) -> Result<(), GrepFault>
-    ensures { WritesTo O.model O.failed out.old out.new result (WritesBytes (decimal number)) }
+    ensures { WritesText O.model O.failed out.old out.new result (decimal number) }
 {
     let mut digits = Buffer::new();
     write_all(out, digits.format(number).as_bytes())?;
@@ -127,7 +125,7 @@ fn write_number<O: Sink>(number: u64, out: &mut O) -> Result<(), GrepFault>
 
 /// A newline.
 fn end_line<O: Sink>(out: &mut O) -> Result<(), GrepFault>
-    ensures { WritesTo O.model O.failed out.old out.new result (WritesBytes (newline ∷ [])) }
+    ensures { WritesText O.model O.failed out.old out.new result (newline ∷ []) }
 {
     write_all(out, b"\n")?;
     Ok(())

@@ -62,9 +62,8 @@ pub fn grep_within<R: Source, O: Sink>(
     out: &mut O,
 ) -> Result<Grepped, GrepFault>
     requires { limit < 2 ^ 32 }
-    ensures report { ReportsBy matcher.old.tree (R.model input.old)
-        (input_report limit printer.now.style printer.now.name.now)
-        (O.model out.old) (O.model out.new) result }
+    ensures report { ReportsBy matcher.old.tree (R.model input.old) (input_report limit
+        printer.now.style printer.now.name.now) (O.model out.old) (O.model out.new) result }
     ensures counts { CountsBoth has_read_failed R.failed O.failed input.old input.new out.old out.new result }
     ensures loses { ConsumesAtMost (limit + 1) (R.model input.old) (R.model input.new) }
     ensures same { matcher.new.tree ≡ matcher.old.tree }

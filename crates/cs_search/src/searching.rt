@@ -140,9 +140,8 @@ impl<'p> Searcher<'p> {
         out: &mut O,
         err: &mut E,
     ) -> Result<bool, ToolFault>
-        ensures prints { PrintsResult self.old
-            (files_shown self.old (map string_bytes names.now) (T.snapshot tree.old))
-            (search_outputs O.model E.model out.old out.new err.old err.new) result }
+        ensures prints { PrintsResult self.old (files_shown self.old (map string_bytes names.now)
+            (T.snapshot tree.old)) (search_outputs O.model E.model out.old out.new err.old err.new) result }
         ensures faults { PrintsAllFaults self.old.tool (map string_bytes names.now)
             (T.failed tree.old) (T.failed tree.new) (E.model err.old) (E.model err.new) result }
         ensures counts { CountsSearchFault O.failed E.failed out.old out.new err.old err.new result }
@@ -248,9 +247,8 @@ fn search_inputs<T: Tree, R: Source, O: Sink, E: Sink>(
     ensures prints { PrintsResult searcher.old (λ has_match.
         cgrep_printed max_searched job.now has_match (T.snapshot tree.old) (R.model input.old))
         (search_outputs O.model E.model out.old out.new err.old err.new) result }
-    ensures faults { PrintsFaultsOf job.now
-        (T.failed tree.old) (T.failed tree.new) (R.failed input.old) (R.failed input.new)
-        (λ lines. WritesBytes lines (E.model err.old) (E.model err.new) result) }
+    ensures faults { PrintsFaultsOf job.now (T.failed tree.old) (T.failed tree.new) (R.failed input.old)
+        (R.failed input.new) (λ lines. WritesBytes lines (E.model err.old) (E.model err.new) result) }
     ensures counts { CountsSearchFault O.failed E.failed out.old out.new err.old err.new result }
     ensures loses { ConsumesAtMost (max_searched + 1) (R.model input.old) (R.model input.new) }
     ensures tree { SearchesTree T.snapshot T.read_counts tree.old tree.new }

@@ -2,7 +2,7 @@
 // candidates, which are searched line by line. The plan of a job is compiled before the index or a
 // file is read.
 ghost use Rattle.std.specs.Prelude.{◌≡◌, IfOk, IfErr, false, None, option_copied, ◌≤◌, ℕ, List, Option, string_bytes};
-ghost use Rattle.cs_search.specs.Cited.{KeepsStore, CountsOne, has_write_failed, SilentOnError, IsSound, AreAccepted, IsQueryOf, IsPlan, SelectsOrRefuses, RefusesPlan, AreSelected, SearchesTree, HasNotBegun, EndsBoth, SearchesBy, IsOpened, IfRead, IsUnopened, ParsesAs, weight, max_weight, search_outputs, IsSearch};
+ghost use Rattle.cs_search.specs.Cited.{KeepsStore, CountsOne, has_write_failed, SilentOnError, IsSound, AreAccepted, IsQueryOf, IsPlan, SelectsOrRefuses, RefusesPlan, AreSelected, SearchesTree, HasNotBegun, EndsBoth, SearchesBy, IsOpened, IfRead, IsUnopened, ParsesAs, weight, max_weight};
 
 use crate::searching::{Searcher, finish};
 use crate::selection::{compile_file, selected_names};
@@ -89,9 +89,8 @@ impl PlannedJob<'_> {
     ) -> Result<Status, ToolFault>
         requires { IsPlan self.now.job.now self.now.plan.now }
         ensures searches { (bytes : Option (List ℕ)) → AreSelected self.now.plan.now bytes names.now →
-            IsSearch IsQueryOf self.now.job.now bytes (T.snapshot tree.old)
-            (T.failed tree.old) (T.failed tree.new)
-            (search_outputs O.model E.model out.old out.new err.old err.new) result }
+            SearchesBy IsQueryOf T.snapshot T.failed O.model E.model self.now.job.now bytes
+            tree.old tree.new out.old out.new err.old err.new result }
         ensures silent { SilentOnError result (HasNotBegun O.model E.model T.failed T.longest_requested
             out.old out.new err.old err.new tree.old tree.new) }
         ensures tree { SearchesTree T.snapshot T.read_counts tree.old tree.new }

@@ -16,9 +16,8 @@ pub fn grep_text<O: Sink>(
     matcher: &mut Matcher<'_>,
     out: &mut O,
 ) -> Result<Grepped, GrepFault>
-    ensures report { IsReportedBy matcher.old.tree
-        (λ has_match. text_report printer.now.style printer.now.name.now has_match text.now)
-        (O.model out.old) (O.model out.new) result }
+    ensures report { IsReportedBy matcher.old.tree (λ has_match. text_report printer.now.style
+        printer.now.name.now has_match text.now) (O.model out.old) (O.model out.new) result }
     ensures failed { O.failed out.new ≡ count_after is_grep_failure result (O.failed out.old) }
     ensures same { matcher.new.tree ≡ matcher.old.tree }
     ensures work { WorksWithin (input_work matcher.old.tree text.now) matcher.old matcher.new }

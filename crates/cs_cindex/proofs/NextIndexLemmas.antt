@@ -5,7 +5,10 @@ use Rattle.cs_cindex.proofs.Common.{IsModelled, Paths, bytes_cmp, nat_list_cmp_t
 use Rattle.std.specs.FinMap as map'
 use Rattle.cs_tree.specs.PathSet as set
 use Rattle.cs_index.specs.Opening.{opening}
+use Rattle.cs_index.specs.Tables.{TableParts, TablesIn}
 use Rattle.cs_merge.specs.Mergeable.{merge_index, AreMergeable}
+use Rattle.cs_merge.specs.Replacing.{is_replaced}
+use Rattle.cs_cindex.specs.Next.{ReplacesBase}
 use Rattle.cs_history.proofs.JobLemmas.{cleanable_update}
 use Rattle.cs_history.proofs.JobListLemmas.{first_premises}
 use Rattle.cs_history.proofs.IndexLemmas.{merged_as, first_index, given_some, walked_own, walked_again, no_index}
@@ -33,6 +36,15 @@ own_index job tree old paths bytes e index built short = record {
 pub reduced_index : (paths start : Paths) (bytes : List ℕ) → paths ≡ least start → IsIndex paths bytes →
     length bytes < 2 ^ 32 → IsReducedIndex bytes
 reduced_index paths start bytes e index short = record { paths = start; index = subst (λ ps. IsIndex ps bytes) e index; short = short }
+
+-- it replaces the base index if these cover it
+pub replacing_index : (paths start : Paths) (bytes : List ℕ) (tables : TableParts) → paths ≡ least start → IsIndex paths bytes →
+    length bytes < 2 ^ 32 → ((base : List ℕ) (parts : Parts) → TablesIn base tables parts → is_replaced paths parts ≡ true) →
+    ReplacesBase bytes tables
+replacing_index paths start bytes tables e index short covers = record {
+  walk = record { paths = start; index = subst (λ ps. IsIndex ps bytes) e index; short = short };
+  covers = λ base parts are. ap (λ ps. is_replaced ps parts) (sym e) ∙ covers base parts are;
+}
 
 pub next_new : (job : IndexJob) (tree : Option Snapshot) (bytes : List ℕ) → IsOwnIndex job tree None bytes →
     IsNext job tree None (Some bytes)

@@ -1,10 +1,10 @@
 -- What reading the base index answers.
-use Rattle.std.specs.Prelude.{◌≡◌, ℕ, false, List, IfErr, MatchResult, Result}
+use Rattle.std.specs.Prelude.{◌≡◌, ℕ, false, List, IfErr, IfOk, MatchResult, Option, Result, Some}
 use Rattle.cs_tree.specs.declared.fault.IoFault.{IoFault}
 use Rattle.cs_tree.specs.declared.fault.IoFault.TheVariants.{Failed}
 use Rattle.cs_index.specs.Opening.{opening}
 use Rattle.cs_index.specs.OpenedParts.{Parts}
-use Rattle.cs_index.specs.Tables.{TableParts}
+use Rattle.cs_index.specs.Tables.{TableParts, TablesIn}
 use Rattle.cs_index.specs.declared.fault.IndexFault.{IndexFault}
 use Rattle.cs_args.specs.declared.fault.CindexFault.{CindexFault}
 use Rattle.cs_output.specs.declared.output.Sent.{Sent}
@@ -22,6 +22,11 @@ OpensBase bytes opened =
 -- the merged index, which has fewer than 2^32 bytes, or why there is none
 abbrev pub AnswersMerge : Parts → Result Parts IndexFault → Result Sent CindexFault → Type 0
 AnswersMerge old newer result = MatchResult result (λ index. MergesShort old newer index.bytes) (IsMergeRefusal old newer)
+
+-- the same over an index whose bytes are known, which has these tables, and an index of a walk
+abbrev pub MergesOver : Option (List ℕ) → TableParts → List ℕ → Result (Result Sent CindexFault) IoFault → Type 0
+MergesOver model tables newer result = (bytes : List ℕ) → model ≡ Some bytes → (parts : Parts) →
+    TablesIn bytes tables parts → IfOk result (AnswersMerge parts (opening newer))
 
 -- No error of the job is a failed write, and one of the store is a failed read.
 abbrev pub OnlyReads : {A : Type 0} → Result (Result A CindexFault) IoFault → Type 0

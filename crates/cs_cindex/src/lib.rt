@@ -6,10 +6,9 @@
 //! `cindex` runs one job after another. A job cleans its paths, opens the old index and tests what
 //! it needs of it, builds the index of what it walks, merges the two, and flushes. If the walked
 //! paths cover the old index, the index of the walk is the result, and the old lists are only read
-//! for damage. The bytes of the new index go to an `Output` of `cs_output` as they are made;
-//! without an old index those of the walk do so, else the index of the walk is in memory until it
-//! is merged. Each contract is stated for every history whose index is the old bytes, so a call
-//! needs no record of earlier jobs.
+//! for damage. The bytes of the new index go to an `Output` of `cs_output` as they are made; only
+//! an index that has to be merged is in memory as a whole. Each contract is stated for every
+//! history whose index is the old bytes, so a call needs no record of earlier jobs.
 //!
 //! `cindex_stored` is one job over an old index in a store, and `cindex` runs it over the bytes in
 //! memory, with a `Vec` as the output. Its answer is what becomes of the index, the `IndexUpdate`

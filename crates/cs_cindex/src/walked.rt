@@ -1,6 +1,6 @@
 // Jobs that walk, and their cleaned paths.
-ghost use Rattle.std.specs.Prelude.{◌≡◌, ℕ, List, false, Some, None, map, string_bytes, IfOk, IfErr, true, MatchResult};
-ghost use Rattle.cs_cindex.specs.Cited.{count_after, KeepsStore, opening, Parts, TablesIn, HasAbsoluteFolder, AnswersMerge, OnlyReads, effects, AreCleaned, walk_starts, IsCleanFault, AreCleanFault, KeepsOldIndex, KeepsTree, refusal_of, IsReducedIndex, IsFit, IsIndex, is_failed_write, base, base_fault, early_walk_fault, Sends, SendsOver, AnswersWalk, IndexesWalk, WalksOver, is_absolute, clean_path, clean_fault, first_bad};
+ghost use Rattle.std.specs.Prelude.{◌≡◌, false, Some, None, map, string_bytes, IfOk, IfErr, true, MatchResult};
+ghost use Rattle.cs_cindex.specs.Cited.{count_after, KeepsStore, HasAbsoluteFolder, MergesOver, OnlyReads, effects, AreCleaned, walk_starts, IsCleanFault, AreCleanFault, KeepsOldIndex, KeepsTree, refusal_of, IsReducedIndex, ReplacesBase, IsFit, IsIndex, is_failed_write, base, base_fault, early_walk_fault, Sends, SendsOver, AnswersWalk, WalksOver, is_absolute, clean_path, clean_fault, first_bad};
 ghost use Rattle.cs_tree.specs.PathSet as set;
 
 use crate::indexer::index_paths;
@@ -91,7 +91,8 @@ fn new_index<T: Tree, W: Output, E: Sink>(
 }
 
 /// Sends the base index, merged with what the job finds below its cleaned paths, or, if it has
-/// none, below those of the base index.
+/// none, below those of the base index. Where these cover the base index, the index of what is found
+/// is the merged one, and is sent as it is made.
 fn extended_index<S: Store, T: Tree, W: Output, E: Sink>(
     call: JobCall<'_>,
     store: &mut S,
@@ -115,34 +116,21 @@ fn extended_index<S: Store, T: Tree, W: Output, E: Sink>(
         Err(fault) => return Err(fault),
     };
     let tables = base.tables();
-    let newer = match own_index(alloc, &tables, given, job, tree, err) {
-        Ok(newer) => newer,
-        Err(fault) => return Ok(Err(fault)),
+    let paths = match paths_to_walk(alloc, &tables, given) {
+        Ok(paths) => paths,
+        Err(AllocError) => return Ok(Err(CindexFault::Memory)),
     };
-    merge_old(alloc, store, &tables, &newer, new)
-}
-
-/// The job's own index: that of what it finds below its cleaned paths, or, if it has none, below
-/// those of the base index.
-fn own_index<T: Tree, E: Sink>(
-    alloc: Global,
-    tables: &Tables<'_>,
-    given: &[String],
-    job: &IndexJob,
-    tree: &mut T,
-    err: &mut E,
-) -> Result<Vec<u8>, CindexFault>
-    requires cleaned { AreCleaned job.now (map string_bytes given.now) }
-    requires fit { IsFit tables.now }
-    ensures walk { IndexesWalk result (λ index. index.items) job.now.log_skip
-        (walk_starts (map string_bytes given.now) tables.now.paths)
-        (effects T.snapshot T.failed E.model E.failed tree.old tree.new err.old err.new) }
-    ensures tree { KeepsTree T.snapshot T.longest_requested T.read_counts tree.old tree.new }
-{
-    let paths = paths_to_walk(alloc, tables, given)?;
+    if is_replaced(&tables, &paths) {
+        return match index_paths(alloc, tree, &paths, job.log_skip, new, err) {
+            Ok(index) => replace_old(alloc, store, &tables, index),
+            Err(fault) => Ok(Err(fault)),
+        };
+    }
     let mut newer = Vec::new(alloc);
-    index_paths(alloc, tree, &paths, job.log_skip, &mut newer, err)?;
-    Ok(newer)
+    match index_paths(alloc, tree, &paths, job.log_skip, &mut newer, err) {
+        Ok(_) => merge_old(alloc, store, &tables, &newer, new),
+        Err(fault) => Ok(Err(fault)),
+    }
 }
 
 /// The reduced paths that a job walks: its own, or, if it has none, those of the index.
@@ -164,8 +152,29 @@ fn paths_to_walk(
     Ok(paths)
 }
 
-/// Sends the base index, merged with that of a walk. Where the walked paths cover the base index,
-/// the bytes of the walk are the merged index, and the lists of the base are only read for damage.
+/// The index of a walk whose paths cover the base index, unless a list of that is damaged.
+fn replace_old<S: Store>(
+    alloc: Global,
+    store: &mut S,
+    old: &Tables<'_>,
+    index: Sent,
+) -> Result<Result<Sent, CindexFault>, IoFault>
+    requires fit { IsFit old.now }
+    requires newer { ReplacesBase index.bytes old.now }
+    ensures merged { MergesOver (S.model store.old) old.now index.bytes result }
+    ensures same { IfOk result (λ answer. IfOk answer (λ sent. sent ≡ index)) }
+    ensures reads { OnlyReads result }
+    ensures store { KeepsStore S.model S.size S.failed store.old store.new result }
+{
+    match is_whole_stored(alloc, store, old) {
+        Ok(true) => Ok(Ok(index)),
+        Ok(false) => Ok(Err(CindexFault::BadIndex(IndexFault::BadList))),
+        Err(IoFault::Memory) => Ok(Err(CindexFault::Memory)),
+        Err(IoFault::Failed) => Err(IoFault::Failed),
+    }
+}
+
+/// Sends the base index, merged with that of a walk.
 fn merge_old<S: Store, W: Output>(
     alloc: Global,
     store: &mut S,
@@ -175,8 +184,7 @@ fn merge_old<S: Store, W: Output>(
 ) -> Result<Result<Sent, CindexFault>, IoFault>
     requires fit { IsFit old.now }
     requires newer { IsReducedIndex newer.now }
-    ensures merged { (bytes : List ℕ) → S.model store.old ≡ Some bytes → (parts : Parts) →
-        TablesIn bytes old.now parts → IfOk result (AnswersMerge parts (opening newer.now)) }
+    ensures merged { MergesOver (S.model store.old) old.now newer.now result }
     ensures reads { OnlyReads result }
     ensures sends { SendsOver W.given W.Keeps new.old new.new result }
     ensures store { KeepsStore S.model S.size S.failed store.old store.new result }
@@ -185,35 +193,12 @@ fn merge_old<S: Store, W: Output>(
         Ok(index) => index,
         Err(fault) => return Ok(Err(CindexFault::from(fault))),
     };
-    let Ok(replaced) = is_replaced(alloc, old, &index) else {
-        return Ok(Err(CindexFault::Memory));
-    };
-    if !replaced {
-        return match merge_stored(alloc, store, u32::MAX, old, &index, new) {
-            Ok(Ok(index)) => Ok(Ok(index)),
-            Ok(Err(fault)) => Ok(Err(merge_refusal(fault))),
-            Err(IoFault::Memory) => Ok(Err(CindexFault::Memory)),
-            Err(IoFault::Failed) => Err(IoFault::Failed),
-        };
-    }
-    match is_whole_stored(alloc, store, old) {
-        Ok(true) => Ok(send(newer, new)),
-        Ok(false) => Ok(Err(CindexFault::BadIndex(IndexFault::BadList))),
+    match merge_stored(alloc, store, u32::MAX, old, &index, new) {
+        Ok(Ok(index)) => Ok(Ok(index)),
+        Ok(Err(fault)) => Ok(Err(merge_refusal(fault))),
         Err(IoFault::Memory) => Ok(Err(CindexFault::Memory)),
         Err(IoFault::Failed) => Err(IoFault::Failed),
     }
-}
-
-/// Sends the bytes of an index in memory.
-fn send<W: Output>(index: &[u8], new: &mut W) -> Result<Sent, CindexFault>
-    ensures bytes { IfOk result (λ sent. sent.bytes ≡ index.now) }
-    ensures memory { IfErr result (λ fault. fault ≡ CindexFault.Memory) }
-    ensures sends { Sends W.given W.Keeps new.old new.new result }
-{
-    new.append(index)?;
-    let mut sent = Sent::new();
-    sent.push(index);
-    Ok(sent)
 }
 
 /// An error of the merge, as that of a job. `Unsorted` and `Uncovered` do not occur: the names of

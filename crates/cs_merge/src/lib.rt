@@ -27,8 +27,8 @@
 //! - *Other orders.* If the new ids of an index are not in the order of its old ones, the new ids
 //!   of both lists are read into memory and sorted.
 //! - *Replacing* (`replacing`). If the newer paths cover all paths and names of the old index
-//!   (`is_replaced`), the merge is the newer index. A caller that has its bytes needs no merge, and
-//!   reads the old lists only for damage (`is_whole_stored`), as `cindex` does.
+//!   (`is_replaced`), the merge is the newer index. So `cindex` sends that as it is made, and reads
+//!   the old lists only for damage (`is_whole_stored`).
 //!
 //! `merge_stored` reads the lists of an old index in a store: `Tables` has what is in memory, and
 //! the list that is merged is in a `ListReader`, from which its postings are borrowed. `merge`

@@ -1,8 +1,8 @@
 // Which names the paths of an index cover, and where the merge is the newer index as a whole.
-ghost use Rattle.std.specs.Prelude.{◌≡◌, ℕ, List, true, Some, IfOk, ◌∷◌, [], is_some, IfSome};
+ghost use Rattle.std.specs.Prelude.{◌≡◌, ℕ, List, true, Some, IfOk, ◌∷◌, [], is_some, IfSome, map, string_bytes};
 ghost use Rattle.std.specs.List.{list_all, list_any};
 ghost use Rattle.std.specs.Option.{option_map_or};
-ghost use Rattle.cs_merge.specs.Cited.{KeepsStore, is_covered, Parts, are_whole, paths_in, are_covered, Ids, TablesIn, AreRead, IsStored, are_whole_from, AreAmong};
+ghost use Rattle.cs_merge.specs.Cited.{KeepsStore, is_covered, Parts, are_whole, are_covered, Ids, TablesIn, AreRead, IsStored, are_ascending, are_whole_from, AreAmong};
 ghost use Rattle.cs_tree.specs.Cover.{covers as covers', is_covered as is_covered'};
 ghost use Rattle.cs_tree.specs.PathSet as set;
 ghost use Rattle.cs_merge.specs.Replacing.{is_replaced as is_replaced'};
@@ -55,15 +55,15 @@ impl<'a> Cover<'a> {
 /// The least number of bytes that a read of old lists asks for.
 pub(crate) const READ_LEN: usize = 1 << 18;
 
-/// Whether the newer paths cover all paths and names of the old index. Then the merge is the newer
-/// index, as `laws::what_is_covered_is_replaced` says, unless a list is damaged: see
+/// Whether the newer paths, which ascend, cover all paths and names of the old index. Then the merge
+/// is the newer index, as `laws::what_is_covered_is_replaced` says, unless a list is damaged: see
 /// `is_whole_stored`.
-pub fn is_replaced(alloc: Global, old: &Tables<'_>, newer: &Index<'_>) -> Result<bool, AllocError>
-    ensures { IfOk result (λ replaced. (bytes : List ℕ) (parts : Parts) →
-        TablesIn bytes old.now parts → replaced ≡ is_replaced' (paths_in newer.now) parts) }
+pub fn is_replaced(old: &Tables<'_>, newer: &[String]) -> bool
+    requires { are_ascending (map string_bytes newer.now) ≡ true }
+    ensures { (bytes : List ℕ) (parts : Parts) → TablesIn bytes old.now parts →
+        result ≡ is_replaced' (set.from_list (map string_bytes newer.now)) parts }
 {
-    let cover = Cover::new(alloc, newer.paths())?;
-    Ok(covers_all(&cover, old.paths()) && covers_all(&cover, old.names()))
+    covers_all(newer, old.paths()) && covers_all(newer, old.names())
 }
 
 /// Whether no posting list of an index in a store is damaged. Each list is read to its end; no id
@@ -129,12 +129,13 @@ pub(crate) fn is_under(index: &Index<'_>) -> bool
     true
 }
 
-/// Whether each text is covered.
-fn covers_all(cover: &Cover<'_>, texts: Texts<'_>) -> bool
-    ensures { result ≡ list_all (is_covered (set.from_list cover.now)) texts.entry }
+/// Whether the paths cover each text.
+fn covers_all(paths: &[String], texts: Texts<'_>) -> bool
+    requires { are_ascending (map string_bytes paths.now) ≡ true }
+    ensures { result ≡ list_all (is_covered (set.from_list (map string_bytes paths.now))) texts.entry }
 {
     'texts: for text in texts {
-        if !cover.covers(text) {
+        if !is_covered(paths, text) {
             return false;
         }
     }

@@ -3,7 +3,7 @@ use cs_fakes::{ChangingStore, Files, ONE_FILE, UNSORTED, changed, index_of, one_
 use cs_index::{Index, IndexFault, OldIndex};
 use cs_merge::{MergeFault, is_replaced, is_whole_stored, merge, merge_stored};
 use cs_output::Sent;
-use cs_tree::{IoFault, MemStore, Store};
+use cs_tree::{IoFault, MemStore, Store, reduce};
 use std::alloc::Global;
 use std::test::Fail;
 
@@ -246,7 +246,12 @@ fn replaces_alike(alloc: Global, old: &[u8], newer: &[u8]) -> Option<bool> {
     let mut store = MemStore::new(old, usize::MAX);
     let opened = OldIndex::open(alloc, &mut store).ok()?.ok()?;
     let later = Index::open(newer).ok()?;
-    let replaced = is_replaced(alloc, &opened.tables(), &later).ok()?;
+    let mut paths = Vec::new(alloc);
+    later.paths().append_to(alloc, &mut paths).ok()?;
+    let Ok(paths) = reduce(alloc, &paths) else {
+        return None;
+    };
+    let replaced = is_replaced(&opened.tables(), &paths);
     let merged = merge(alloc, &Index::open(old).ok()?, &later).ok()?;
     Some(replaced == (merged.as_slice() == newer))
 }

@@ -14,6 +14,7 @@ use Rattle.cs_index.specs.Candidates.{candidates_of}
 use Rattle.cs_index.specs.declared.fault.IndexFault.{IndexFault}
 use Rattle.cs_index.specs.declared.fault.IndexFault.TheVariants.{BadList}
 use Rattle.cs_index.specs.NameReading.{ReadsNames}
+use Rattle.cs_index.specs.declared.reading.name_reader.NameReader.{NameReader}
 use Rattle.cs_search.specs.IndexSearch.{AreKept, matcher_tree, names_at}
 use Rattle.cs_search.specs.declared.stored.Plan.{Plan}
 use Rattle.cs_search.specs.declared.selection.Selection.{Selection}

@@ -1,7 +1,6 @@
 use Rattle.std.proofs.Common.{◌≡◌, ◌∙◌, ℕ, List, Result, Ok, Err, ap, sym, subst, IfErr, IfOk, MatchResult, ◌≤◌, ◌<◌, ◌^◌, true, false, length, refl, arith}
 use Rattle.cs_cindex.proofs.Common.{are_distinct, Parts, Sent, CindexFault, Memory, IsMergeRefusal, MergesShort, true≢false, and_from, false_from_ne_true, are_whole, IsMergeable, refusal_of}
 use Rattle.cs_index.specs.Opening.{opening}
-use Rattle.cs_cindex.proofs.ReplacedIndexLemmas.{replaced_merges}
 use Rattle.cs_index.specs.OpenedParts.{are_covered}
 use Rattle.cs_merge.specs.declared.fault.MergeFault.{MergeFault}
 use Rattle.cs_merge.specs.Mergeable.{both_distinct, both_whole, merge_index}
@@ -59,26 +58,3 @@ returns-in-Ok-Err-clause-merged g c = λ bytes known parts are.
     (refusal parts c.in-Ok.index (ap are_distinct (sym are.names) ∙ c.requires.fit.distinct) c.in-Ok-Err.fault
     (subst (Answers parts c.in-Ok.index) c.in-Ok-Err.field-0-is
     (c.in-Ok-Err.ensures.merged bytes known parts are))))
-
--- the bytes of the walk are sent
-sent_whole : (parts : Parts) (newer : List ℕ) → MergesShort parts (opening newer) newer →
-    (r : Result Sent CindexFault) → IfOk r (λ sent. sent.bytes ≡ newer) → IfErr r (λ fault. fault ≡ Memory) →
-    MatchResult r (λ index. MergesShort parts (opening newer) index.bytes) (IsMergeRefusal parts (opening newer))
-sent_whole parts newer merges (Ok sent) are memory = subst (MergesShort parts (opening newer)) (sym are) merges
-sent_whole parts newer merges (Err fault) are memory = subst (IsMergeRefusal parts (opening newer)) (sym memory) tt
-
-pub returns-in-Ok-true-clause-merged : goal.returns-in-Ok-true-clause-merged
-returns-in-Ok-true-clause-merged g c = λ bytes known parts are.
-    sent_whole parts c.args.newer.now
-    (record {
-      merges = replaced_merges parts c.in-Ok.index c.args.newer.now (ap are_distinct (sym are.names)
-          ∙ c.requires.fit.distinct) c.requires.newer c.in-Ok.ensures.opens
-          (sym (c.in-Ok-is_replaced.ensures bytes parts are) ∙ c.if-not-replaced.false)
-          (sym (c.in-Ok-true.ensures.whole bytes known parts are) ∙ c.in-Ok-true.field-0-test);
-      short = c.requires.newer.short;
-    })
-    c.send.result c.send.ensures.bytes c.send.ensures.memory
-
-pub returns-in-Ok-false-clause-merged : goal.returns-in-Ok-false-clause-merged
-returns-in-Ok-false-clause-merged g c = λ bytes known parts are sound.
-    (refl, sym (c.in-Ok-false.ensures.whole bytes known parts are) ∙ c.in-Ok-false.field-0-test)

@@ -8,7 +8,7 @@ use Rattle.cs_index.specs.Opening.{opening}
 use Rattle.cs_index.specs.Tables.{TableParts, TablesIn}
 use Rattle.cs_merge.specs.Mergeable.{merge_index, AreMergeable}
 use Rattle.cs_merge.specs.Replacing.{is_replaced}
-use Rattle.cs_cindex.specs.Next.{ReplacesBase}
+use Rattle.cs_cindex.specs.BaseReads.{ReplacesBase}
 use Rattle.cs_history.proofs.JobLemmas.{cleanable_update}
 use Rattle.cs_history.proofs.JobListLemmas.{first_premises}
 use Rattle.cs_history.proofs.IndexLemmas.{merged_as, first_index, given_some, walked_own, walked_again, no_index}

@@ -1,5 +1,6 @@
 -- What reading the base index answers.
-use Rattle.std.specs.Prelude.{◌≡◌, ℕ, false, List, IfErr, IfOk, MatchResult, Option, Result, Some}
+use Rattle.std.specs.Prelude.{◌≡◌, ℕ, false, List, IfErr, IfOk, MatchResult, Option, Result, Some, true}
+use Rattle.cs_tree.specs.Cover.{least}
 use Rattle.cs_tree.specs.declared.fault.IoFault.{IoFault}
 use Rattle.cs_tree.specs.declared.fault.IoFault.TheVariants.{Failed}
 use Rattle.cs_index.specs.Opening.{opening}
@@ -7,9 +8,11 @@ use Rattle.cs_index.specs.OpenedParts.{Parts}
 use Rattle.cs_index.specs.Tables.{TableParts, TablesIn}
 use Rattle.cs_index.specs.declared.fault.IndexFault.{IndexFault}
 use Rattle.cs_args.specs.declared.fault.CindexFault.{CindexFault}
+use Rattle.cs_merge.specs.Replacing.{is_replaced}
 use Rattle.cs_output.specs.declared.output.Sent.{Sent}
 use Rattle.cs_cindex.specs.Merges.{IsMergeRefusal, MergesShort}
 use Rattle.cs_cindex.specs.FitTables.{IsFitFor}
+use Rattle.cs_cindex.specs.Next.{IsReducedIndex}
 use Rattle.cs_cindex.specs.Output.{is_failed_write}
 use Rattle.cs_cindex.specs.Refusals.{EarlyOr, IsOutputFault, opening_fault, unfit_parts_fault}
 
@@ -27,6 +30,11 @@ AnswersMerge old newer result = MatchResult result (λ index. MergesShort old ne
 abbrev pub MergesOver : Option (List ℕ) → TableParts → List ℕ → Result (Result Sent CindexFault) IoFault → Type 0
 MergesOver model tables newer result = (bytes : List ℕ) → model ≡ Some bytes → (parts : Parts) →
     TablesIn bytes tables parts → IfOk result (AnswersMerge parts (opening newer))
+
+-- The index of a walk, whose paths cover all paths and names of the base index, which has these tables.
+pub record ReplacesBase (bytes : List ℕ) (tables : TableParts) : Type 0 where
+  pub walk : IsReducedIndex bytes
+  pub covers : (base : List ℕ) (parts : Parts) → TablesIn base tables parts → is_replaced (least walk.paths) parts ≡ true
 
 -- No error of the job is a failed write, and one of the store is a failed read.
 abbrev pub OnlyReads : {A : Type 0} → Result (Result A CindexFault) IoFault → Type 0

@@ -15,7 +15,7 @@ pub use Rattle.cs_tree.specs.Folders.{are_distinct}
 pub use Rattle.cs_tree.specs.KeepsStore.{KeepsStore}
 pub use Rattle.cs_tree.specs.NamesAscending.{are_ascending}
 pub use Rattle.cs_tree.specs.Walks.{AreWithinPathLimit, fault_entry}
-pub use Rattle.cs_cindex.specs.BaseReads.{MergesOver, OnlyReads, OpensBase}
+pub use Rattle.cs_cindex.specs.BaseReads.{MergesOver, OnlyReads, OpensBase, ReplacesBase}
 pub use Rattle.cs_cindex.specs.Diagnostics.{fault_entry_line, faulted, skipped, text_of}
 pub use Rattle.cs_cindex.specs.Effects.{WritesOut, effects}
 pub use Rattle.cs_cindex.specs.FitTables.{IsFit}
@@ -25,7 +25,7 @@ pub use Rattle.cs_cindex.specs.KeepsOldIndex.{KeepsOldIndex}
 pub use Rattle.cs_cindex.specs.KeepsTree.{KeepsTree, KeepsTrees}
 pub use Rattle.cs_cindex.specs.Listed.{ListsOver, ListsPaths}
 pub use Rattle.cs_cindex.specs.Merges.{refusal_of}
-pub use Rattle.cs_cindex.specs.Next.{IsReducedIndex, ReplacesBase}
+pub use Rattle.cs_cindex.specs.Next.{IsReducedIndex}
 pub use Rattle.cs_cindex.specs.OldIndex.{IsIndex}
 pub use Rattle.cs_cindex.specs.Outcomes.{IsStepTo, IsWholeStepTo, RightAfter, reply_of}
 pub use Rattle.cs_cindex.specs.Output.{is_failed_write, job_tree, output, path_lines}

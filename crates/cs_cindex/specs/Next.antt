@@ -12,9 +12,7 @@ use Rattle.cs_index.specs.Opening.{opening}
 use Rattle.cs_index.specs.OpenedParts.{Parts, are_whole, paths_in}
 use Rattle.cs_index.specs.declared.fault.IndexFault.{IndexFault}
 use Rattle.cs_merge.specs.Content.{IsContent, LieUnder}
-use Rattle.cs_index.specs.Tables.{TableParts, TablesIn}
 use Rattle.cs_merge.specs.Mergeable.{merge_index}
-use Rattle.cs_merge.specs.Replacing.{is_replaced}
 use Rattle.cs_args.specs.declared.jobs.IndexJob.{IndexJob}
 use Rattle.cs_history.specs.Jobs.{given_paths, has_no_path}
 use Rattle.cs_history.specs.Premises.{modelled_snapshot, IsShort}
@@ -66,11 +64,6 @@ pub record IsReducedIndex (bytes : List ℕ) : Type 0 where
   pub paths : Paths
   pub index : IsIndex (least paths) bytes
   pub short : IsShort (Some bytes)
-
--- Its paths cover all paths and names of the base index, which has these tables.
-pub record ReplacesBase (bytes : List ℕ) (tables : TableParts) : Type 0 where
-  pub walk : IsReducedIndex bytes
-  pub covers : (base : List ℕ) (parts : Parts) → TablesIn base tables parts → is_replaced (least walk.paths) parts ≡ true
 
 -- The bytes are the index of what a walk from the paths finds, if the tree is modelled.
 abbrev pub IsIndexOf : Option Snapshot → Paths → List ℕ → Type 0

@@ -91,8 +91,8 @@ fn new_index<T: Tree, W: Output, E: Sink>(
 }
 
 /// Sends the base index, merged with what the job finds below its cleaned paths, or, if it has
-/// none, below those of the base index. Where these cover the base index, the index of what is found
-/// is the merged one, and is sent as it is made.
+/// none, below those of the base index. Where these cover the base index, the index of what is
+/// found is the merged one, and is sent as it is made.
 fn extended_index<S: Store, T: Tree, W: Output, E: Sink>(
     call: JobCall<'_>,
     store: &mut S,

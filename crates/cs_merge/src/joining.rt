@@ -24,7 +24,8 @@ impl<S: Store + Drop> StoredPart<S> {
     /// posting list.
     pub fn open(alloc: Global, store: S) -> Result<Result<StoredPart<S>, IndexFault>, IoFault>
         ensures opens { IfSome (S.model store) (λ bytes. IfOk result (λ opened. MatchResult opened
-            (λ part. (parts : Parts) × IsStoredPart S.model part parts) (λ fault. opening bytes ≡ Err fault))) }
+            (λ part. (parts : Parts) × IsStoredPart S.model part parts)
+            (λ fault. opening bytes ≡ Err fault))) }
         ensures model { IfOk result (λ opened. IfOk opened (λ part. S.model part.store ≡ S.model store)) }
     {
         let mut store = store;

@@ -55,9 +55,9 @@ impl<'a> Cover<'a> {
 /// The least number of bytes that a read of old lists asks for.
 pub(crate) const READ_LEN: usize = 1 << 18;
 
-/// Whether the newer paths, which ascend, cover all paths and names of the old index. Then the merge
-/// is the newer index, as `laws::what_is_covered_is_replaced` says, unless a list is damaged: see
-/// `is_whole_stored`.
+/// Whether the newer paths, which ascend, cover all paths and names of the old index. Then the
+/// merge is the newer index, as `laws::what_is_covered_is_replaced` says, unless a list is damaged:
+/// see `is_whole_stored`.
 pub fn is_replaced(old: &Tables<'_>, newer: &[String]) -> bool
     requires { are_ascending (map string_bytes newer.now) ≡ true }
     ensures { (bytes : List ℕ) (parts : Parts) → TablesIn bytes old.now parts →

@@ -39,7 +39,7 @@ pub use Rattle.cs_search.specs.Searched.{IsSearch}
 pub use Rattle.cs_search.specs.SearchedBy.{SearchesBy}
 pub use Rattle.cs_search.specs.SearchedWork.{ReadsOne, SearchesLines, StepsWithin, ended_work}
 pub use Rattle.cs_search.specs.Searcher.{CountsSearchFault, PrintsAllFaults, PrintsResult, file_shown, files_shown, input_shown}
-pub use Rattle.cs_search.specs.Selections.{HasSelected, IfStandsIn, IsBlockOf, PushesMatching, ReadsBlock, Selects, SelectsMore}
+pub use Rattle.cs_search.specs.Selections.{HasSelected, IfStands, IsBlockOf, PushesMatching, ReadsBlock, Selects, SelectsMore}
 pub use Rattle.cs_search.specs.StoredSearch.{IfRead, IsOpened, IsUnopened}
 pub use Rattle.cs_search.specs.TestedLines.{CountsBlock, EndsBy, GoesOn, HasCountedNone, IfUnended, IfUnlisted, IsNextBlock, IsUnlisted, SameNumber, TestsBlock, TestsBy, WritesText, WritesTo, match_output, total}
 pub use Rattle.cs_search.specs.Work.{TakesSteps, input_work, searched_work}

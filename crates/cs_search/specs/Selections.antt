@@ -31,8 +31,8 @@ SelectsMore model ids old new result = (bytes : List ℕ) (parts : Parts) (done 
     IfOk result (λ answer. IsOkAnd answer (λ _. HasSelected bytes parts (done ++ ids) new))
 
 -- `Claim` holds of the parts of the index, if these are what the store's model has
-abbrev pub IfStandsIn : Option (List ℕ) → StoredParts → (Parts → Type 0) → Type 0
-IfStandsIn model index Claim = (bytes : List ℕ) (parts : Parts) → model ≡ Some bytes → StandsIn bytes index parts → Claim parts
+abbrev pub IfStands : Option (List ℕ) → StoredParts → (Parts → Type 0) → Type 0
+IfStands model index Claim = (bytes : List ℕ) (parts : Parts) → model ≡ Some bytes → StandsIn bytes index parts → Claim parts
 
 -- the names, each with a newline after it
 abbrev pub as_lines : List (List ℕ) → List ℕ

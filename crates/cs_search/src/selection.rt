@@ -1,7 +1,7 @@
 // The names of an index in a store that a search selects: those of its candidates that `-f` keeps.
 ghost use Rattle.std.specs.Prelude.{◌≡◌, ◌<◌, ◌++◌, ◌∷◌, [], ℕ, List, Some, All, IfOk, length, Bool, IfErr, option_copied};
 ghost use Rattle.std.specs.Result.{IsOkAnd};
-ghost use Rattle.cs_search.specs.Cited.{KeepsStore, Parts, StandsIn, IfStandsIn, AreKept, DecidesNames, matcher_tree, IsFileProgram, FileRefused, file_pattern_fault, HasSelected, Selects, SelectsMore, file_text};
+ghost use Rattle.cs_search.specs.Cited.{KeepsStore, Parts, StandsIn, IfStands, AreKept, DecidesNames, matcher_tree, IsFileProgram, FileRefused, file_pattern_fault, HasSelected, Selects, SelectsMore, file_text};
 
 use crate::name_block::{push_matching, read_block};
 use crate::status::newlines;
@@ -201,7 +201,7 @@ pub(crate) fn selected_names<S: Store>(
     index: &StoredIndex,
     store: &mut S,
 ) -> Result<Result<Vec<String>, IndexFault>, IoFault>
-    ensures answers { IfStandsIn (S.model store.old) index.now (λ parts. IfOk result (Selects plan.now parts)) }
+    ensures answers { IfStands (S.model store.old) index.now (λ parts. IfOk result (Selects plan.now parts)) }
     ensures store { KeepsStore S.model S.size S.failed store.old store.new result }
 {
     match index.candidates(alloc, store, &plan.query)? {
@@ -235,7 +235,7 @@ fn kept_names<S: Store>(
     ids: &[u32],
     store: &mut S,
 ) -> Result<Result<Vec<String>, IndexFault>, IoFault>
-    ensures kept { IfStandsIn (S.model store.old) index.now (λ parts.
+    ensures kept { IfStands (S.model store.old) index.now (λ parts.
         All (λ id. id < length parts.names) ids.now → IfOk result (λ answer. IsOkAnd answer
         (λ names. AreKept (option_copied file.entry) parts.names ids.now names.items))) }
     ensures store { KeepsStore S.model S.size S.failed store.old store.new result }

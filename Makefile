@@ -19,7 +19,7 @@ help:
 	@echo 'make dist deb   makes an archive for each Linux on x86-64, and a Debian package, in the folder dist'
 	@echo 'make quick      the pages, names and types of all crates, and the end-to-end tests on the built program: minutes'
 	@echo 'make test       all tests, those of the libraries and those of the built program: a quarter of an hour'
-	@echo 'make check      the gate: every proof from nothing, the mutants of must-fail/*.edit, and all tests: an hour'
+	@echo 'make check      the gate: every proof from nothing, the mutants of must-fail/*.edit, and all tests: over an hour'
 	@echo "make mutants    judges each mutant by itself (also make wrong): hours; CRATES='cs_tree cs_index/NAME' gives some"
 	@echo 'make trusted    what has to be read to believe the contracts of the tools'
 	@echo 'make promises   each promise with its clauses, definitions and mutants: out/promises.md'

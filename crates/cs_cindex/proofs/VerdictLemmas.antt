@@ -57,7 +57,7 @@ verdict_is tree name verdict agrees = record { trigrams = agrees.trigrams ∙ sy
 -- ---- a file that cannot be opened
 
 refused_at : (fault : TreeFault) (opening : Result SourceModel TreeFault) (later : Option SourceModel) →
-    fault ≢ tree.Memory → OpensFileAs (Err fault) opening later → opening ≡ Err fault
+    fault ≢ tree.Memory → OpensFileAs {A = Unit {0}} (Err fault) opening later → opening ≡ Err fault
 refused_at tree.Memory opening later not o = absurd (not refl)
 refused_at _ opening later not o = o.0
 
@@ -68,7 +68,7 @@ open_counted tree.Memory n not = absurd (not refl)
 open_counted _ n not = refl
 
 pub verdict_refused : (snapshot : Option Snapshot) (name : List ℕ) (fault : TreeFault) (later : Option SourceModel) →
-    fault ≢ tree.Memory → OpensFile snapshot name (Err fault) later →
+    fault ≢ tree.Memory → OpensFile {A = Unit {0}} snapshot name (Err fault) later →
     IsVerdictIn snapshot name (Err (file_fault_of fault))
 verdict_refused None name fault later not opens = tt
 verdict_refused (Some tree) name fault later not opens =
@@ -91,7 +91,7 @@ opened_at name verdict (Ok model) later is finds = let f = finds model is in rec
 opened_at name verdict (Err why) later is finds = absurd is
 
 verdict_opened : (snapshot : Option Snapshot) (name : List ℕ) (verdict : Verdict) (later : Option SourceModel) →
-    OpensFile snapshot name (Ok tt) later → ((model : SourceModel) → open_model snapshot later ≡ Some model →
+    OpensFile {A = Unit {0}} snapshot name (Ok tt) later → ((model : SourceModel) → open_model snapshot later ≡ Some model →
     Finds name verdict (scan_outcome limits model)) → IsVerdictIn snapshot name verdict
 verdict_opened None name verdict later opens finds = tt
 verdict_opened (Some tree) name verdict later opens finds =
@@ -106,7 +106,7 @@ right_at : (read : Option SourceModel) (model : SourceModel) (scan : Result (Sca
     (scan_outcome limits model)
 right_at read model scan is right = rw is at right
 
-module _ (snapshot : Option Snapshot) (name : List ℕ) (later : Option SourceModel) (opens : OpensFile snapshot name (Ok tt) later) where
+module _ (snapshot : Option Snapshot) (name : List ℕ) (later : Option SourceModel) (opens : OpensFile {A = Unit {0}} snapshot name (Ok tt) later) where
   finds_scanned : (scan : Scan (Bor (List ℕ))) (model : SourceModel) →
       ReportsScan (Ok scan) (λ trigrams. set_of_numbers trigrams.now) (scan_outcome limits model) →
       Finds name (Ok scan) (scan_outcome limits model)

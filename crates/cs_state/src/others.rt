@@ -5,7 +5,7 @@ ghost use Rattle.cs_state.specs.Cited.{Kept, indexed, kept_of, kept_byte};
 use cs_tree::Stamp;
 
 /// What a file is that the index does not have.
-#[derive(Clone, Copy, Debug, PartialEq, Eq)]
+#[derive(Clone, Copy, PartialEq, Eq)]
 pub enum Unindexed {
     /// There is a NUL in its first 8,000 bytes.
     Binary,
@@ -14,7 +14,7 @@ pub enum Unindexed {
 }
 
 /// A file that the index does not have.
-#[derive(Debug, Drop)]
+#[derive(Drop)]
 pub struct OtherFile {
     pub name: String,
     pub kept: Unindexed,

@@ -2,7 +2,7 @@
 // `specs/StateLengths.antt` cites it.
 
 /// The lengths of the sections of a state file.
-#[derive(Clone, Copy, Debug, PartialEq, Eq)]
+#[derive(Clone, Copy, PartialEq, Eq)]
 pub struct StateLengths {
     /// The length of the index.
     pub index: usize,

@@ -16,7 +16,8 @@ const TOO_LONG: u64 = 1 << 32;
 /// The mode of a first index, before the umask.
 const NEW_MODE: u32 = 0o666;
 
-/// The rights that the owner has to FILE~, at least, until it is renamed.
+/// The rights that the owner has to FILE~, at least, until it is renamed, and the mode of a private
+/// file.
 const OWNER_WRITES: u32 = 0o600;
 
 /// The bits of a mode that say who may read, write and execute.
@@ -30,6 +31,8 @@ const ROOT: u32 = 0;
 pub struct DiskFolder {
     rt: HostRuntime,
     paths: IndexPaths,
+    /// Whether only its owner may read and write what is stored.
+    is_private: bool,
     /// The metadata of FILE when it was opened.
     seen: Option<Metadata>,
     /// FILE~, if this process made it and locked it.
@@ -43,10 +46,21 @@ pub struct DiskFolder {
 }
 
 impl DiskFolder {
+    /// A first file has the mode that the umask leaves, and a later one that of the file before.
     pub fn new(rt: HostRuntime, paths: IndexPaths) -> DiskFolder {
+        DiskFolder::of_mode(rt, paths, false)
+    }
+
+    /// Each file that is stored is readable and writable by its owner alone.
+    pub fn private(rt: HostRuntime, paths: IndexPaths) -> DiskFolder {
+        DiskFolder::of_mode(rt, paths, true)
+    }
+
+    fn of_mode(rt: HostRuntime, paths: IndexPaths, is_private: bool) -> DiskFolder {
         DiskFolder {
             rt,
             paths,
+            is_private,
             seen: None,
             temp: None,
             given: Sent::new(),
@@ -72,6 +86,24 @@ impl DiskFolder {
                 Ok(DiskIndex(DiskStore::new(opened)?))
             }
             _ => Err(StorageFault::Failed),
+        }
+    }
+
+    /// The file whose rights the next one keeps.
+    fn kept(&self) -> Option<&Metadata> {
+        if self.is_private {
+            None
+        } else {
+            self.seen.as_ref()
+        }
+    }
+
+    /// The mode with which FILE~ is made, before the umask.
+    fn temp_mode(&self) -> u32 {
+        match self.kept() {
+            Some(seen) => kept_mode(seen.mode()) | OWNER_WRITES,
+            None if self.is_private => OWNER_WRITES,
+            None => NEW_MODE,
         }
     }
 
@@ -124,19 +156,12 @@ impl IndexFolder for DiskFolder {
     /// A file system without locks is accepted, since no other process can create FILE~ while it
     /// exists.
     fn claim(&mut self) -> Result<(), StorageFault> {
+        let mode = self.temp_mode();
         let path = self.paths.temp.as_str();
         remove_stale(&self.rt, path, self.seen.as_ref())?;
-        let mode = self
-            .seen
-            .as_ref()
-            .map_or(NEW_MODE, |seen| kept_mode(seen.mode()) | OWNER_WRITES);
-        let temp = File::options()
-            .append(true)
-            .create_new(true)
-            .mode(mode)
-            .open(&self.rt, path)?;
+        let temp = make_file(&self.rt, path, mode)?;
         if let Err(TryLockError::WouldBlock) = temp.try_lock() {
-            return Err(StorageFault::Failed);
+            return Err(StorageFault::Locked);
         }
         check_same_file(&self.rt, path, &temp)?;
         self.temp = Some(temp);
@@ -178,7 +203,7 @@ impl IndexFolder for DiskFolder {
             return Err(fault);
         }
         let temp = self.temp()?;
-        copy_rights(temp, self.seen.as_ref())?;
+        copy_rights(temp, self.kept())?;
         temp.sync_all()?;
         if temp.metadata()?.len() == self.written {
             Ok(())
@@ -252,6 +277,20 @@ fn is_readable(there: &Metadata) -> bool {
     there.is_file() && there.len() < TOO_LONG
 }
 
+/// Makes FILE~. Where there is one by now, another run has made it.
+fn make_file(rt: &HostRuntime, path: &str, mode: u32) -> Result<File, StorageFault> {
+    let made = File::options()
+        .append(true)
+        .create_new(true)
+        .mode(mode)
+        .open(rt, path);
+    match made {
+        Ok(file) => Ok(file),
+        Err(error) if error.kind() == ErrorKind::AlreadyExists => Err(StorageFault::Locked),
+        Err(error) => Err(StorageFault::from(error)),
+    }
+}
+
 fn write_bytes(mut temp: &File, bytes: &[u8]) -> io::Result<()> {
     temp.write_all(bytes)
 }
@@ -320,7 +359,7 @@ fn open_unlocked(rt: &HostRuntime, path: &str, there: &Metadata) -> Result<File,
     }
     match opened.try_lock() {
         Ok(()) => Ok(opened),
-        Err(TryLockError::WouldBlock) => Err(StorageFault::Failed),
+        Err(TryLockError::WouldBlock) => Err(StorageFault::Locked),
         Err(TryLockError::Error(_)) => Err(StorageFault::Leftover),
     }
 }

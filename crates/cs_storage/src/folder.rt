@@ -66,8 +66,10 @@ pub trait IndexFolder {
 /// Why the index file cannot be read or written.
 #[derive(Clone, Copy, Debug, PartialEq, Eq)]
 pub enum StorageFault {
-    /// A call of the system failed, or another run writes the index.
+    /// A call of the system failed, or FILE has changed since it was opened.
     Failed,
+    /// Another run holds FILE~.
+    Locked,
     /// At FILE~ there is a file that this run may not take away.
     Leftover,
     /// The process or the system can open no more files.
@@ -89,6 +91,7 @@ impl From<io::Error> for StorageFault {
         ensures memory { result ≡ StorageFault.Memory → error_kind error ≡ ErrorKind.OutOfMemory }
         ensures failed { result ≡ StorageFault.Failed → error_kind error ≢ ErrorKind.OutOfMemory }
         ensures leftover { result ≢ StorageFault.Leftover }
+        ensures locked { result ≢ StorageFault.Locked }
     {
         if let Some(PROCESS_DESCRIPTORS | SYSTEM_DESCRIPTORS) = error.raw_os_error() {
             return StorageFault::Descriptors;

@@ -216,6 +216,19 @@ impl<R: Files + AllocGlobal + Clone + Drop> Look for DiskTree<R> {
         };
         counted_answer(&mut self.failed, answer)
     }
+
+    /// Follows symbolic links. Everything that is no regular file is `Failed`.
+    fn open_file(&mut self, path: &str) -> Result<Option<Stamp>, TreeFault> {
+        self.opened = DiskFile::Closed;
+        let from = path_from(self.current.as_str(), path);
+        match open_stamped(&self.rt, self.output, from) {
+            Ok((file, stamp)) => {
+                self.opened = file;
+                Ok(stamp)
+            }
+            Err(fault) => counted_answer(&mut self.failed, Err(fault)),
+        }
+    }
 }
 
 fn seen_of(metadata: &Metadata) -> Seen
@@ -432,6 +445,29 @@ fn open_file<R: Files + Drop>(
         return Ok(DiskFile::Empty);
     }
     Ok(DiskFile::Open(file))
+}
+
+/// Opens a regular file, unless it is the output, and returns its stamp. The path is looked up
+/// before, so that a pipe does not block.
+fn open_stamped<R: Files + Drop>(
+    rt: &R,
+    output: Option<FileId>,
+    path: &str,
+) -> Result<(DiskFile<R::File>, Option<Stamp>), TreeFault> {
+    opened_len(fs::metadata(rt, path), true, output)?;
+    let file = match fs::open(rt, path) {
+        Ok(file) => file,
+        Err(error) => return Err(fault_of(&error)),
+    };
+    let metadata = match file.metadata() {
+        Ok(metadata) => metadata,
+        Err(error) => return Err(fault_of(&error)),
+    };
+    let stamp = stamp_of(&metadata);
+    if opened_len(Ok(metadata), true, output)? == 0 {
+        return Ok((DiskFile::Empty, stamp));
+    }
+    Ok((DiskFile::Open(file), stamp))
 }
 
 /// The length of a file that may be opened, and an error for any other.

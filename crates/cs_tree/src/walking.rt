@@ -28,7 +28,7 @@ pub enum WalkFault {
 }
 
 /// The result of a walk.
-#[derive(Debug, Drop)]
+#[derive(Drop)]
 pub struct Walked {
     /// The paths of the files, ascending.
     pub names: Vec<String>,

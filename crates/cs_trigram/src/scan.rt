@@ -7,7 +7,7 @@ use thiserror::Error;
 
 /// Why a file is skipped. The first byte that breaks a rule gives the reason; if it breaks several,
 /// the first of them in this order.
-#[derive(Clone, Copy, Debug, PartialEq, Eq)]
+#[derive(Clone, Copy, PartialEq, Eq)]
 pub enum Reason {
     /// A byte is `00`, as in `61 00`.
     Nul,
@@ -26,7 +26,7 @@ pub enum Reason {
 /// The result of a scan. A text has its trigrams, each the number `65536 * a + 256 * b + c` of its
 /// three bytes: `Scanner::scan` returns them strictly ascending, and `Scanner::gather` lends them,
 /// each once, in the order of their first occurrence.
-#[derive(Debug, Drop, PartialEq, Eq)]
+#[derive(Drop, PartialEq, Eq)]
 pub enum Scan<T = Vec<u32>> {
     /// Text: its trigrams, and its length in bytes.
     Text { trigrams: T, bytes: u64 },
@@ -63,7 +63,7 @@ impl<T: Drop> From<AllocFailed<T>> for ScanFault {
 
 /// The most bytes of a file, the most bytes of a line with its newline, and the most distinct
 /// trigrams.
-#[derive(Clone, Copy, Debug, PartialEq, Eq)]
+#[derive(Clone, Copy, PartialEq, Eq)]
 pub struct Limits {
     pub bytes: u64,
     pub line: usize,

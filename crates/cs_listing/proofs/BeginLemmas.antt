@@ -6,10 +6,10 @@ use Rattle.cs_tree.specs.Elements.{are_elements}
 use Rattle.cs_tree.specs.Snapshot.{Snapshot, item_at}
 use Rattle.cs_tree.specs.Folders.{names_listed}
 use Rattle.cs_tree.specs.Clean.{path_of, with_slashes}
-use Rattle.cs_listing.specs.Layers.{FolderRules}
+use Rattle.cs_listing.specs.Layers.{FolderRules, room_after}
 use Rattle.cs_listing.specs.Models.{folder_of, folder_name, folders_in, all_names, settings_of}
-use Rattle.cs_listing.specs.Listing.{Settings, TreeItems, folders_to, is_found}
-use Rattle.cs_listing.specs.FolderReads.{InTree, entry_path, folder_read, keys_taken}
+use Rattle.cs_listing.specs.Listing.{Settings, TreeItems, rule_names, folders_to, is_found}
+use Rattle.cs_listing.specs.FolderReads.{InTree, entry_path, folder_path, folder_read, keys_taken}
 use Rattle.cs_listing.specs.Entries.{AreKeysOf}
 use Rattle.cs_listing.specs.Walk.{settings_in, above_in, keys_in, keys_of_all, frames_in, is_to_come, IsOf, Begins, Enters, Opens}
 use Rattle.cs_listing.specs.declared.layers.Layers.{Layers}
@@ -45,9 +45,9 @@ enters_root s names stem old new none no_folders no_frames empty settings enters
     by_model : (o : Option Snapshot) → InTree o (λ items. Enters items [] names old new) → InTree o (λ items. IsAt items [] new names)
     by_model None enters = tt
     by_model (Some tree) enters =
-        let read = folder_is (settings_in old).takes_ignored (item_at tree) [] names enters.0 in (
+        let read = folder_is (room_after (settings_in old).takes_ignored []) (item_at tree) [] names enters.0 in (
           enters.2
-              ∙ ap (λ (fs : List FolderRules). fs ++ folder_read (settings_in old).takes_ignored (item_at tree) [] names ∷ []) no_folders
+              ∙ ap (λ (fs : List FolderRules). fs ++ folder_read (room_after (settings_in old).takes_ignored fs) (item_at tree) [] (rule_names (item_at tree) [] (item_at tree (folder_path []))) ∷ []) no_folders
               ∙ ap (λ f. f ∷ []) read.1
               ∙ sym (ap (λ (s : Settings). folders_to s.takes_ignored (item_at tree) []) settings),
           read.0,
@@ -76,9 +76,10 @@ enters_more s next start name stem later names listed old new same has text sett
     by_model None at enters = tt
     by_model (Some tree) at enters =
         let ti = (settings_in old).takes_ignored in
-        let read = folder_is ti (item_at tree) (name ∷ reverse start) listed enters.0 in (
+        let read = folder_is (room_after ti (folders_to ti (item_at tree) (reverse start))) (item_at tree) (name ∷ reverse start) listed enters.0 in (
           enters.2
-              ∙ ap (λ (fs : List FolderRules). fs ++ folder_read ti (item_at tree) (with_slashes (name ∷ reverse start)) listed ∷ []) at.0
+              ∙ ap (λ (fs : List FolderRules). fs ++ folder_read (room_after ti fs) (item_at tree) (with_slashes (name ∷ reverse start))
+              (rule_names (item_at tree) (with_slashes (name ∷ reverse start)) (item_at tree (folder_path (with_slashes (name ∷ reverse start))))) ∷ []) at.0
               ∙ ap (λ f. folders_to ti (item_at tree) (reverse start) ++ f ∷ []) read.1
               ∙ sym (ap (λ (s : Settings). folders_to s.takes_ignored (item_at tree) (name ∷ reverse start)) settings),
           read.0,

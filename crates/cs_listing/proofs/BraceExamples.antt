@@ -63,3 +63,20 @@ as_two_globs = refl
 
 mark_in_braces : globs_in (codes "{!a,b}") ≡ Some (rules_for (codes "\\!a") ++ rules_for (codes "b"))
 mark_in_braces = refl
+
+-- ---- globs that can match nothing
+
+slash_alone : globs_in (codes "/") ≡ None
+slash_alone = refl
+
+mark_alone : globs_in (codes "!") ≡ None
+mark_alone = refl
+
+class_without_an_end : globs_in (codes "[") ≡ None
+class_without_an_end = refl
+
+empty_name : globs_in (codes "a//b") ≡ None
+empty_name = refl
+
+no_alternative : globs_in (codes "{a,}") ≡ None
+no_alternative = refl

@@ -1,18 +1,15 @@
 -- The items of a class, one after the other.
 use Rattle.std.proofs.Common.{◌≡◌, refl, ℕ, zero, suc, ◌+◌, ◌-◌, ◌≤◌, ◌<◌, Bool, true, false, cond, List, [], ◌∷◌, ◌++◌, length, drop, take, sym, ap, ◌∙◌, subst, arith, append_assoc, length-take, length-drop}
 use Rattle.std.proofs.lemmas.Slice.Eq.{bytes_eq-Decides}
-use Rattle.std.specs.Prelude.{Option, Some, None, nat_eq, nat_le, ◌&&◌, IfSome, bytes_eq, codes}
-use Rattle.cs_listing.specs.Classes.{ItemsRead, begins_with, after_backslash, quoted, letters, class_name, closed_name, is_range, range_to, range_from, named_item, ranges_named, item_or, class_item, item_length, with_item, one_longer, later_items, class_items}
+use Rattle.std.specs.List.{before_first, position_or_len}
+use Rattle.std.proofs.lemmas.Bool.Decides.{nat_tests}
+use Rattle.std.proofs.lemmas.List.{drop-drop}
+use Rattle.std.specs.Prelude.{Option, Some, None, nat_eq, nat_lt, ◌&&◌, not, IfSome, bytes_eq, codes}
+use Rattle.cs_listing.proofs.LineLemmas.{ends_at_last, take_start}
+use Rattle.cs_listing.specs.Reading.{HasNoName}
+use Rattle.cs_listing.specs.Classes.{ItemsRead, begins_with, after_backslash, ends_with_byte, quoted, class_name, before_bracket, closed_name, is_range, range_to, range_from, named_item, ranges_named, item_or, class_item, item_length, with_item, one_longer, later_items, class_items}
 
 -- ---- lengths
-
-within : (c : Bool) (n m : ℕ) → n ≤ m → cond c (n + 1) 0 ≤ suc m
-within true n m h = omega arith
-within false n m h = omega arith
-
-pub letters_within : (text : List ℕ) → letters text ≤ length text
-letters_within [] = omega arith
-letters_within (b ∷ text) = within (nat_le 97 b && nat_le b 122) (letters text) (length text) (letters_within text)
 
 abbrev IsLonger : ItemsRead → Type 0
 IsLonger o = IfSome o (λ item. 0 < item.1)
@@ -125,24 +122,134 @@ two : (xs name : List ℕ) → length name ≡ 2 → bytes_eq (take 2 xs) name �
 two xs name len is = let same = (bytes_eq-Decides (take 2 xs) name).0 is in
     omega (arith, ap length same, length-take 2 xs, len)
 
-in_by : (c : Bool) (text name : List ℕ) → bytes_eq (take 2 (drop (letters text) text)) (codes ":]") ≡ c →
-    cond c (Some (take (letters text) text)) None ≡ Some name → length name + 2 ≤ length text
-in_by true text name is e =
-    let back = two (drop (letters text) text) (codes ":]") refl is in
-    let same : take (letters text) text ≡ name = cc in
-    omega (arith, back, ap length same, length-take (letters text) text, length-drop (letters text) text, letters_within text)
-in_by false text name is e = cc
+-- the name of a text whose bytes before its first `]` are these
+abbrev pub closes : List ℕ → List ℕ → Bool
+closes inner text = nat_lt (length inner) (length text) && ends_with_byte 58 inner
+
+abbrev closed : List ℕ → List ℕ → Option (List ℕ)
+closed inner text = cond (closes inner text) (Some (take (length inner - 1) inner)) None
+
+both : (c d : Bool) → (c && d) ≡ true → (c ≡ true) × (d ≡ true)
+both true d e = (refl, e)
+both false d e = cc
+
+ends_some : (b : ℕ) (text : List ℕ) → ends_with_byte b text ≡ true → 0 < length text
+ends_some b [] e = cc
+ends_some b (x ∷ text) e = omega arith
+
+in_by : (c : Bool) (inner text name : List ℕ) → closes inner text ≡ c →
+    cond c (Some (take (length inner - 1) inner)) None ≡ Some name → length name + 2 ≤ length text
+in_by true inner text name is e =
+    let parts = both (nat_lt (length inner) (length text)) (ends_with_byte 58 inner) is in
+    let same : take (length inner - 1) inner ≡ name = cc in
+    let some = ends_some 58 inner parts.1 in
+    let less : length inner < length text = let less = parts.0 in grind (arith, nat_tests) in
+    omega (arith, some, less, ap length same, length-take (length inner - 1) inner)
+in_by false inner text name is e = cc
 
 name_by : (c : Bool) (text name : List ℕ) → bytes_eq (take 2 text) (codes "[:") ≡ c → cond c (closed_name (drop 2 text)) None ≡ Some name →
     length name + 4 ≤ length text
 name_by true text name is e =
     let start = two text (codes "[:") refl is in
-    let rest = in_by (bytes_eq (take 2 (drop (letters (drop 2 text)) (drop 2 text))) (codes ":]")) (drop 2 text) name refl e in
+    let rest = in_by (closes (before_bracket (drop 2 text)) (drop 2 text)) (before_bracket (drop 2 text)) (drop 2 text) name refl e in
     omega (arith, start, rest, length-drop 2 text)
 name_by false text name is e = cc
 
 name_within : (text name : List ℕ) → class_name text ≡ Some name → length name + 4 ≤ length text
 name_within text name e = name_by (bytes_eq (take 2 text) (codes "[:")) text name refl e
+
+-- the name of a text that begins with `[:`
+pub name_ends : (text rest inner name : List ℕ) → bytes_eq (take 2 text) (codes "[:") ≡ true → rest ≡ drop 2 text →
+    inner ≡ before_bracket rest → inner ≡ name ++ 58 ∷ [] → length inner < length rest → class_name text ≡ Some name
+name_ends text rest inner name is at e last less =
+    let lt : nat_lt (length inner) (length rest) ≡ true = grind (arith, nat_tests) in
+    let ends : ends_with_byte 58 inner ≡ true = ap (ends_with_byte 58) last ∙ ends_at_last 58 58 name in
+    let whole : closed inner rest ≡ Some name =
+    ap (λ t. cond (t && ends_with_byte 58 inner) (Some (take (length inner - 1) inner)) None) lt
+    ∙ ap (λ t. cond t (Some (take (length inner - 1) inner)) None) ends
+    ∙ ap (λ i. Some (take (length i - 1) i)) last ∙ ap Some (take_start name 58) in
+    ap (λ t. cond t (closed_name (drop 2 text)) None) is ∙ ap closed_name (sym at) ∙ ap (λ i. closed i rest) (sym e) ∙ whole
+
+-- ---- texts in which no name begins
+
+none_by : {A : Type 0} (c : Bool) (x : A) → cond c (Some x) None ≡ None → c ≡ false
+none_by true x e = cc
+none_by false x e = refl
+
+no_end : (c : Bool) → (c && false) ≡ false
+no_end true = refl
+no_end false = refl
+
+none_inside : (b : ℕ) (inner text : List ℕ) → closed (b ∷ inner) (b ∷ text) ≡ None → closed inner text ≡ None
+none_inside b [] text e = ap (λ t. cond t (Some (take (0 - 1) [])) None) (no_end (nat_lt 0 (length text)))
+none_inside b (x ∷ inner) text e =
+    let less : nat_lt (length (x ∷ inner)) (length text) ≡ nat_lt (length (b ∷ x ∷ inner)) (length (b ∷ text)) = grind (arith, nat_tests) in
+    ap (λ t. cond (t && ends_with_byte 58 (x ∷ inner)) (Some (take (length (x ∷ inner) - 1) (x ∷ inner))) None) less
+    ∙ ap (λ t. cond t (Some (take (length (x ∷ inner) - 1) (x ∷ inner))) None)
+    (none_by (closes (b ∷ x ∷ inner) (b ∷ text)) (take (length (b ∷ x ∷ inner) - 1) (b ∷ x ∷ inner)) e)
+
+take_one : (n b : ℕ) (text : List ℕ) → take (1 + n) (b ∷ text) ≡ b ∷ take n text
+take_one n b text = let e : 1 + n ≡ suc n = omega arith in ap (λ m. take m (b ∷ text)) e
+
+before_more : (c : Bool) (b : ℕ) (text : List ℕ) → nat_eq b 93 ≡ c → before_bracket (b ∷ text) ≡ cond c [] (b ∷ before_bracket text)
+before_more true b text is = ap (λ t. take (cond (not t) (1 + position_or_len (λ x. nat_eq x 93) text) 0) (b ∷ text)) is
+before_more false b text is =
+    ap (λ t. take (cond (not t) (1 + position_or_len (λ x. nat_eq x 93) text) 0) (b ∷ text)) is
+    ∙ take_one (position_or_len (λ x. nat_eq x 93) text) b text
+
+abbrev StaysNone : ℕ → List ℕ → Type 0
+StaysNone k text = k ≤ length (before_bracket text) → closed_name text ≡ None → closed_name (drop k text) ≡ None
+
+none_by_byte : (c : Bool) (k b : ℕ) (text : List ℕ) → nat_eq b 93 ≡ c → StaysNone k text → StaysNone (suc k) (b ∷ text)
+none_by_byte true k b text is rest = λ most e. absurd (omega (arith, most, ap length (before_more true b text is)))
+none_by_byte false k b text is rest = λ most e.
+    let more = before_more false b text is in
+    rest (omega (arith, most, ap length more)) (none_inside b (before_bracket text) text (ap (λ i. closed i (b ∷ text)) (sym more) ∙ e))
+
+none_later : (k : ℕ) (text : List ℕ) → StaysNone k text
+none_later zero text = λ most e. e
+none_later (suc k) [] = λ most e. e
+none_later (suc k) (b ∷ text) = none_by_byte (nat_eq b 93) k b text refl (none_later k text)
+
+none_either : (c : Bool) (o : Option (List ℕ)) → o ≡ None → cond c o None ≡ None
+none_either true o e = e
+none_either false o e = refl
+
+-- where no name is closed, and where none begins
+pub none_closed : (text rest inner : List ℕ) → rest ≡ drop 2 text → inner ≡ before_bracket rest → closes inner rest ≡ false →
+    HasNoName text 0 (length inner + 1)
+none_closed text rest inner at e is = λ k from less.
+    let none : closed_name rest ≡ None =
+    ap (λ i. closed i rest) (sym e) ∙ ap (λ t. cond t (Some (take (length inner - 1) inner)) None) is in
+    let later = none_later k rest (omega (arith, less, ap length e)) none in
+    none_either (bytes_eq (take 2 (drop k text)) (codes "[:")) (closed_name (drop 2 (drop k text)))
+    (ap closed_name (drop-drop 2 k text ∙ ap (λ n. drop n text) (omega arith) ∙ sym (drop-drop k 2 text) ∙ ap (drop k) (sym at)) ∙ later)
+
+pub none_begins : (text : List ℕ) → bytes_eq (take 2 text) (codes "[:") ≡ false → HasNoName text 0 1
+none_begins text is = λ k from less. let zero : 0 ≡ k = omega (arith, less) in
+    subst (λ k. class_name (drop k text) ≡ None) zero (ap (λ t. cond t (closed_name (drop 2 text)) None) is)
+
+-- the bytes before a `]` that do not end in `:`
+pub closes_by_last : (inner rest name : List ℕ) (last : ℕ) → inner ≡ name ++ last ∷ [] → nat_eq last 58 ≡ false → closes inner rest ≡ false
+closes_by_last inner rest name last at is =
+    ap (λ t. nat_lt (length inner) (length rest) && t) (ap (ends_with_byte 58) at ∙ ends_at_last 58 last name ∙ is)
+    ∙ no_end (nat_lt (length inner) (length rest))
+
+pub closes_none : (inner rest : List ℕ) → length inner ≡ 0 → closes inner rest ≡ false
+closes_none [] rest none = no_end (nat_lt 0 (length rest))
+closes_none (x ∷ inner) rest none = absurd (omega (arith, none))
+
+pub closes_at_end : (inner rest : List ℕ) → nat_lt (length inner) (length rest) ≡ false → closes inner rest ≡ false
+closes_at_end inner rest is = ap (λ t. t && ends_with_byte 58 inner) is
+
+-- no name begins in the rest of a text, as in the text
+pub none_from : (text : List ℕ) (at n end : ℕ) → HasNoName (drop at text) 0 n → end ≤ at + n → HasNoName text at end
+none_from text at n end none most = λ k from less.
+    let e : at + (k - at) ≡ k = omega (arith, from) in
+    subst (λ t. class_name t ≡ None) (drop-drop (k - at) at text ∙ ap (λ j. drop j text) e) (none (k - at) (omega arith) (omega (arith, from, less, most)))
+
+pub none_after : (text : List ℕ) (at n end : ℕ) → HasNoName text at end → HasNoName text (at + n) end
+none_after text at n end none = λ k from less. none k (omega (arith, from)) less
 
 -- the item that has a name
 pub named : (text name : List ℕ) (ranges : List (ℕ × ℕ)) → class_name text ≡ Some name → ranges_named name ≡ Some ranges →

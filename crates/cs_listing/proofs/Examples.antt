@@ -101,6 +101,12 @@ named_class = refl
 unknown_class : file_says (codes "[[:foo:]]") (codes "f") ≡ None
 unknown_class = refl
 
+name_in_name : file_says (codes "b[[:a[:digit:]]") (codes "b:]") ≡ None
+name_in_name = refl
+
+bracket_of_no_name : file_says (codes "b[[:a]") (codes "b:") ≡ Some Ignore
+bracket_of_no_name = refl
+
 bracket_first : file_says (codes "[]a]") (codes "]") ≡ Some Ignore
 bracket_first = refl
 

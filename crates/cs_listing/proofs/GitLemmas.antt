@@ -1,14 +1,14 @@
--- The files by which a repository names its folder.
-use Rattle.std.specs.Prelude.{Option, Some, None, bytes_eq, codes}
+-- The files by which a repository names its folder, and the nearest repository.
+use Rattle.std.specs.Prelude.{Option, Some, None, bytes_eq}
 use Rattle.std.specs.Str.{is_utf8, IsUtf8}
-use Rattle.std.proofs.Common.{◌≡◌, refl, ℕ, Bool, true, false, not, ◌&&◌, cond, List, [], ◌∷◌, length, take, drop, eqb, ne_eqb, arith, sym, ap, subst, ◌∙◌}
+use Rattle.std.proofs.Common.{◌≡◌, refl, ℕ, Bool, true, false, not, ◌&&◌, cond, List, [], ◌∷◌, ◌++◌, length, take, drop, reverse, eqb, ne_eqb, arith, sym, ap, subst, ◌∙◌}
 use Rattle.std.proofs.lemmas.Str.{is_utf8-from_IsUtf8, IsUtf8-from_is_utf8}
+use Rattle.std.proofs.lemmas.List.{reverse-append}
 use Rattle.cs_tree.specs.Snapshot.{Snapshot, item_at}
-use Rattle.cs_tree.specs.Elements.{is_among}
-use Rattle.cs_listing.specs.Rules.{Rule}
-use Rattle.cs_listing.specs.GitFolders.{first_line, path_in, path_after, git_folder}
-use Rattle.cs_listing.specs.Listing.{rules_of_item}
-use Rattle.cs_listing.specs.FolderReads.{InTree, entry_path, exclude_read}
+use Rattle.cs_tree.specs.Clean.{with_slashes}
+use Rattle.cs_listing.specs.Rules.{or_else}
+use Rattle.cs_listing.specs.FolderReads.{InTree}
+use Rattle.cs_listing.specs.GitFolders.{first_line, path_in, path_after, repository_begun, repository_above}
 
 -- ---- the line after a beginning
 
@@ -28,36 +28,40 @@ module _ (beginning text rest line : List ℕ) (begins : bytes_eq (take (length 
       ∙ ap path_in (sym (first ∙ ap first_line after))
 
   pub empty_line : eqb (length line) 0 ≡ true → None ≡ path_after beginning text
-  empty_line empty = sym (is_line ∙ ap (λ b. cond (is_utf8 line && not b) (Some line) None) (is_empty_text line ∙ empty) ∙ no_more (is_utf8 line))
+  empty_line empty = sym (is_line ∙ ap (λ b. cond (not b && is_utf8 line) (Some line) None) (is_empty_text line ∙ empty))
+
+  pub no_text : ¬ (IsUtf8 line) → None ≡ path_after beginning text
+  no_text broken = sym (is_line
+      ∙ ap (λ b. cond (not (bytes_eq line []) && b) (Some line) None) (is_no_text line (is_utf8 line) refl broken)
+      ∙ no_more (not (bytes_eq line [])))
     where
       no_more : (b : Bool) → cond (b && false) (Some line) None ≡ None
       no_more true = refl
       no_more false = refl
 
-  pub no_text : ¬ (IsUtf8 line) → None ≡ path_after beginning text
-  no_text broken = sym (is_line ∙ ap (λ b. cond (b && not (bytes_eq line [])) (Some line) None) (is_no_text line (is_utf8 line) refl broken))
-
   pub is_path : (path : List ℕ) → path ≡ line → IsUtf8 line → eqb (length line) 0 ≡ false → Some path ≡ path_after beginning text
   is_path path same utf8 some =
       ap (λ p. Some p) same
       ∙ sym (is_line
-      ∙ ap (λ b. cond (b && not (bytes_eq line [])) (Some line) None) (is_utf8-from_IsUtf8 line utf8)
-      ∙ ap (λ b. cond (not b) (Some line) None) (is_empty_text line ∙ some))
+      ∙ ap (λ b. cond (not (bytes_eq line []) && b) (Some line) None) (is_utf8-from_IsUtf8 line utf8)
+      ∙ ap (λ b. cond (not b && true) (Some line) None) (is_empty_text line ∙ some))
 
--- ---- the rules of a repository
+-- ---- the nearest repository
 
-pub exclude_is : (s next : Option Snapshot) (stem folder text : List ℕ) (names : List (List ℕ)) (rules : List Rule) →
-    next ≡ s → text ≡ folder → is_among names (codes ".git") ≡ true → InTree s (λ items. folder ≡ git_folder items stem) →
-    InTree next (λ items. rules ≡ rules_of_item (items (entry_path text (codes "info/exclude")))) →
-    InTree s (λ items. Some rules ≡ exclude_read items stem names)
-exclude_is s next stem folder text names rules same at listed found read =
-    by_model s found (subst (λ o. InTree o (λ items. rules ≡ rules_of_item (items (entry_path text (codes "info/exclude"))))) same read)
+pub nearest_more : (s now : Option Snapshot) (names : List (List ℕ)) (name stem : List ℕ) (found before later : Option (List ℕ × List ℕ)) →
+    now ≡ s → stem ≡ with_slashes (name ∷ reverse names) → later ≡ or_else found before →
+    InTree now (λ items. found ≡ repository_begun items stem) → InTree s (λ items. before ≡ repository_above items (reverse names)) →
+    InTree s (λ items. later ≡ repository_above items (reverse (names ++ name ∷ [])))
+nearest_more s now names name stem found before later same at is one so_far =
+    by_model s (subst (λ o. InTree o (λ items. found ≡ repository_begun items stem)) same one) so_far
   where
-    by_model : (o : Option Snapshot) → InTree o (λ items. folder ≡ git_folder items stem) →
-        InTree o (λ items. rules ≡ rules_of_item (items (entry_path text (codes "info/exclude")))) →
-        InTree o (λ items. Some rules ≡ exclude_read items stem names)
-    by_model None found read = tt
-    by_model (Some tree) found read =
-        let all = rules_of_item (item_at tree (entry_path (git_folder (item_at tree) stem) (codes "info/exclude"))) in
-        ap (λ rs. Some rs) (read ∙ ap (λ t. rules_of_item (item_at tree (entry_path t (codes "info/exclude")))) (at ∙ found))
-        ∙ sym (ap (λ b. cond b (Some all) None) listed)
+    by_model : (o : Option Snapshot) → InTree o (λ items. found ≡ repository_begun items stem) →
+        InTree o (λ items. before ≡ repository_above items (reverse names)) →
+        InTree o (λ items. later ≡ repository_above items (reverse (names ++ name ∷ [])))
+    by_model None one so_far = tt
+    by_model (Some tree) one so_far =
+        let items = item_at tree in
+        is
+        ∙ ap (λ f. or_else f before) (one ∙ ap (repository_begun items) at)
+        ∙ ap (or_else (repository_begun items (with_slashes (name ∷ reverse names)))) so_far
+        ∙ sym (ap (repository_above items) (reverse-append names (name ∷ [])))

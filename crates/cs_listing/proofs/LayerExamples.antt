@@ -12,17 +12,17 @@ use Rattle.cs_listing.specs.declared.rules.Decision.TheVariants.{Ignore, TakeBac
 -- ---- folders, by the text of their files
 
 abbrev plain : FolderRules
-plain = record { ignore = []; gitignore = []; exclude = None }
+plain = record { ignore = []; gitignore = []; exclude = None; bytes = 0 }
 
 abbrev with_ignore : List ℕ → FolderRules
-with_ignore text = record { ignore = rules_of text; gitignore = []; exclude = None }
+with_ignore text = record { ignore = rules_of text; gitignore = []; exclude = None; bytes = 0 }
 
 abbrev with_gitignore : List ℕ → FolderRules
-with_gitignore text = record { ignore = []; gitignore = rules_of text; exclude = None }
+with_gitignore text = record { ignore = []; gitignore = rules_of text; exclude = None; bytes = 0 }
 
 -- the root of a repository, by its `.gitignore` and its `info/exclude`
 abbrev root : List ℕ → List ℕ → FolderRules
-root text exclude = record { ignore = []; gitignore = rules_of text; exclude = Some (rules_of exclude) }
+root text exclude = record { ignore = []; gitignore = rules_of text; exclude = Some (rules_of exclude); bytes = 0 }
 
 -- what the files of these folders say of a file that is in the last one
 abbrev file_says : List FolderRules → List (List ℕ) → Option Decision

@@ -1,14 +1,14 @@
 -- What the deepest of some folders says, and where a repository begins.
 use denote.Ref.{Bor}
-use Rattle.std.proofs.Common.{◌≡◌, refl, ℕ, ◌+◌, Bool, true, false, List, [], ◌∷◌, ◌++◌, length, take, drop, append_assoc, ◌-◌, sym, ap, ◌∙◌, arith}
+use Rattle.std.proofs.Common.{◌≡◌, refl, ℕ, ◌+◌, Bool, true, false, List, [], ◌∷◌, ◌++◌, length, take, drop, get_or, append_assoc, ◌-◌, ◌<◌, sym, ap, ◌∙◌, arith}
 use Rattle.std.specs.Prelude.{Option, Some, None, is_some}
 use Rattle.std.specs.List.{IsLastAndRest}
-use Rattle.std.proofs.lemmas.List.{drop-drop, drop-map, map-append, length-map, take_rest}
+use Rattle.std.proofs.lemmas.List.{drop-drop, drop-map, map-append, length-map, take_more, take_rest}
 use Rattle.std.proofs.Math.Seq.{drop-append_seam}
 use Rattle.cs_listing.specs.Rules.{Rule, decide, or_else}
 use Rattle.cs_listing.specs.MatchWork.{rules_work}
 use Rattle.cs_listing.specs.Models.{names, folder_of, folders_of, rules_in, rules_if}
-use Rattle.cs_listing.specs.Layers.{FolderRules, Repository, rules_at, deepest, begins_here, repository_of, last_name}
+use Rattle.cs_listing.specs.Layers.{FolderRules, rule_bytes, Repository, rules_at, deepest, begins_here, repository_of, last_name}
 use Rattle.cs_listing.specs.LayersWork.{files_work}
 use Rattle.cs_listing.specs.declared.rules.Decision.{Decision}
 use Rattle.cs_listing.specs.declared.rules.Rules.{Rules}
@@ -161,3 +161,14 @@ pub last_of : (path : List (List ℕ)) (name : List ℕ) → last_name (path ++ 
 last_of [] name = refl
 last_of (first ∷ []) name = refl
 last_of (first ∷ second ∷ path) name = last_of (second ∷ path) name
+
+-- ---- the bytes of rule files
+
+pub rule_bytes_more : (folders : List FolderRules) (last : FolderRules) → rule_bytes (folders ++ last ∷ []) ≡ rule_bytes folders + last.bytes
+rule_bytes_more [] last = omega arith
+rule_bytes_more (folder ∷ folders) last = omega (arith, rule_bytes_more folders last)
+
+pub folders_more : (folders : List OwnFolder) (i : ℕ) (folder : OwnFolder) → i < length folders → folder ≡ get_or folders i folder →
+    folders_of (take (i + 1) folders) ≡ folders_of (take i folders) ++ folder_of folder ∷ []
+folders_more folders i folder low is =
+    ap folders_of (take_more folders i folder low ∙ ap (λ y. take i folders ++ y ∷ []) (sym is)) ∙ map-append folder_of (take i folders) (folder ∷ [])

@@ -39,3 +39,5 @@ pub mod MarkLemmas
 mod MarkExamples
 pub mod TypeLemmas
 mod UnreadExamples
+pub mod UserLemmas
+mod SettingExamples

@@ -4,16 +4,17 @@ use Rattle.std.specs.Prelude.{Option, Some, None, MatchOption, nat_eq, nat_lt, b
 use Rattle.std.specs.List.{IsLastAndRest, before_first, position_or_len, position}
 use Rattle.std.proofs.lemmas.Bool.Decides.{nat_tests}
 use Rattle.std.proofs.lemmas.List.{take_all, take-append-le}
-use Rattle.cs_listing.specs.RuleFiles.{ends_with_byte, without_last, trimmed_after}
+use Rattle.cs_listing.specs.Classes.{ends_with_byte}
+use Rattle.cs_listing.specs.RuleFiles.{without_last, trimmed_after}
 
 -- ---- the last byte
 
-ends_at_last : (b last : ℕ) (rest : List ℕ) → ends_with_byte b (rest ++ last ∷ []) ≡ nat_eq last b
+pub ends_at_last : (b last : ℕ) (rest : List ℕ) → ends_with_byte b (rest ++ last ∷ []) ≡ nat_eq last b
 ends_at_last b last [] = refl
 ends_at_last b last (x ∷ []) = refl
 ends_at_last b last (x ∷ y ∷ rest) = ends_at_last b last (y ∷ rest)
 
-take_start : (rest : List ℕ) (last : ℕ) → take (length (rest ++ last ∷ []) - 1) (rest ++ last ∷ []) ≡ rest
+pub take_start : (rest : List ℕ) (last : ℕ) → take (length (rest ++ last ∷ []) - 1) (rest ++ last ∷ []) ≡ rest
 take_start rest last =
     let len : length (rest ++ last ∷ []) - 1 ≡ length rest = omega (arith, length-append rest (last ∷ [])) in
     ap (λ n. take n (rest ++ last ∷ [])) len ∙ take-append-le (length rest) rest (last ∷ []) (omega arith) ∙ take_all (length rest) rest (omega arith)

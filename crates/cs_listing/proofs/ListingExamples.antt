@@ -13,6 +13,9 @@ settings = plain_settings [] []
 abbrev tree : List (List ℕ × Item)
 tree =
     (codes "/p", folder (codes ".git" ∷ codes ".gitignore" ∷ codes "a.o" ∷ codes "b.c" ∷ codes "build" ∷ codes "link" ∷ codes "src" ∷ []) false)
+    ∷ (codes "/p/.git/HEAD", file [])
+    ∷ (codes "/p/.git/objects", folder [] false)
+    ∷ (codes "/p/.git/refs", folder [] false)
     ∷ (codes "/p/.gitignore", file (codes "*.o" ++ 10 ∷ codes "/build/"))
     ∷ (codes "/p/a.o", file (codes "1"))
     ∷ (codes "/p/b.c", file (codes "2"))
@@ -23,6 +26,11 @@ tree =
     ∷ (codes "/p/src/.gitignore", file (codes "!keep.o"))
     ∷ (codes "/p/src/.x", file (codes "4"))
     ∷ (codes "/p/src/keep.o", file (codes "5"))
+    ∷ (codes "/q", folder (codes ".git" ∷ codes ".gitignore" ∷ codes "a.o" ∷ []) false)
+    ∷ (codes "/q/.git/objects", folder [] false)
+    ∷ (codes "/q/.git/refs", folder [] false)
+    ∷ (codes "/q/.gitignore", file (codes "*"))
+    ∷ (codes "/q/a.o", file (codes "6"))
     ∷ []
 
 abbrev items : TreeItems
@@ -53,6 +61,10 @@ named_folder = refl
 
 link : lists_in_p (codes "link" ∷ []) ≡ false
 link = refl
+
+-- `.git` without `HEAD` begins no repository: its `.gitignore` counts for nothing
+ignored_outside : is_listed settings items (codes "q" ∷ []) (codes "a.o" ∷ []) ≡ true
+ignored_outside = refl
 
 no_such_file : lists_in_p (codes "c" ∷ []) ≡ false
 no_such_file = refl

@@ -13,13 +13,14 @@ use Rattle.cs_tree.specs.Snapshot.{Snapshot, item_at}
 use Rattle.cs_tree.specs.Elements.{is_among, is_element, are_elements, are_distinct}
 use Rattle.cs_tree.specs.Folders.{names_listed}
 use Rattle.cs_tree.specs.Clean.{path_of, with_slashes, longest_path}
+use Rattle.cs_listing.specs.Layers.{FolderRules, room_after}
 use Rattle.cs_listing.specs.Models.{all_names, folders_in, names_in, settings_of}
-use Rattle.cs_listing.specs.Listing.{Settings, TreeItems, leaves_out, folders_to}
+use Rattle.cs_listing.specs.Listing.{Settings, TreeItems, rule_names, leaves_out, folders_to}
 use Rattle.cs_listing.specs.FolderReads.{InTree, folder_path, entry_path, key_of, keys_taken, out_by}
 use Rattle.cs_listing.specs.Entries.{AreKeysOf, IsNameOf, entry_key}
-use Rattle.cs_listing.specs.Unreadable.{IsUnreadFrom, IsUnreadable, unread_rules, unread_rules_at, unread_rules_to, unread_folder, unseen_entries, is_unlisted, is_folder, only_if}
-use Rattle.cs_listing.specs.ReportsAll.{unread_paths, paths_noted, unlisted_path, is_noted, ComesUnread, IsToReport, KeepsToReport, BeginsToReport, ReportsAll, EntersNoting, OpensNoting, VisitsNoting, KeepsNoted}
-use Rattle.cs_listing.specs.Walk.{settings_in, StepGives, above_in, frames_in, keys_in, keys_of_all, with_key, unread_in, IsOf, IsVisit, IsWalkIn, AreAround, Enters, Opens, WereReported, TakesUnread, KeepsReports, HasReportedNone}
+use Rattle.cs_listing.specs.Unreadable.{IsUnreadFrom, IsUnreadable, folders_above, unread_rules, unread_rules_at, unread_rules_to, unread_folder, unseen_entries, is_unlisted, is_folder, only_if}
+use Rattle.cs_listing.specs.ReportsAll.{unread_paths, paths_noted, unlisted_path, is_noted, ComesUnread, IsToReport, KeepsToReport, BeginsToReport, ReportsAll, unread_rules_of, EntersNoting, OpensNoting, VisitsNoting, KeepsNoted}
+use Rattle.cs_listing.specs.Walk.{settings_in, room_in, StepGives, above_in, frames_in, keys_in, keys_of_all, with_key, unread_in, IsOf, IsVisit, IsWalkIn, AreAround, Enters, Opens, WereReported, TakesUnread, KeepsReports, HasReportedNone}
 use Rattle.cs_listing.specs.WholeWalks.{GivesToEnd, paths_reported, WalksReportAll}
 use Rattle.cs_listing.specs.declared.entries.Entry.{Entry}
 use Rattle.cs_listing.specs.declared.entries.FolderNames.{FolderNames}
@@ -151,12 +152,17 @@ some_keys (frame ∷ frames) some = λ none. cons_not_nil (keys_in frame) (keys_
 
 -- ---- a folder is visited
 
+-- the rules of a folder by its text
+rules_are : (ti : Bool) (items : TreeItems) (above : List (List ℕ)) →
+    unread_rules_of (room_after ti (folders_above ti items above)) items (with_slashes above) ≡ unread_rules_at ti items above
+rules_are ti items above = ap (λ path. unread_rules (room_after ti (folders_above ti items above)) items (with_slashes above) (rule_names items (with_slashes above) (items path))) (path_is above)
+
 visited_noting : (items : TreeItems) (name : List ℕ) (stem : String Global) (names : List (List ℕ)) (listed : FolderNames) (frame : Frame)
     (old mid new : Walk) → Enters items (string_bytes stem) names old mid → all_names mid.layers ≡ all_names old.layers ++ name ∷ [] →
     mid.frames ≡ old.frames → settings_in mid ≡ settings_in old → new.frames.items ≡ mid.frames.items ++ frame ∷ [] →
     AreKeysOf (keys_in frame) (keys_taken mid.layers items (string_bytes stem) names) → new.layers ≡ mid.layers →
     new.reported ≡ old.reported →
-    paths_noted mid.reader ≡ paths_noted old.reader ++ unread_rules (settings_in old).takes_ignored items (string_bytes stem) names →
+    paths_noted mid.reader ≡ paths_noted old.reader ++ unread_rules_of (room_in old) items (string_bytes stem) →
     is_some listed.fault ≡ is_unlisted (items (folder_path (string_bytes stem))) →
     paths_noted new.reader ≡ paths_noted mid.reader
     ++ (unlisted_path (string_bytes stem) listed ++ unseen_entries (out_by mid.layers) items (string_bytes stem) names) →
@@ -167,16 +173,18 @@ visited_noting items name stem names listed frame old mid new enters more same s
     let at = entered_at items name stem names old mid enters more settings visit in
     let taken = subst (λ t. AreKeysOf (keys_in frame) (keys_taken mid.layers items t names)) visit.3 keys in
     let fault = subst (λ t. is_some listed.fault ≡ is_unlisted (items (folder_path t))) visit.3 whole in
-    let rules : unread_rules (settings_in old).takes_ignored items (string_bytes stem) names
+    let rules : unread_rules_of (room_in old) items (string_bytes stem)
     ≡ unread_rules_at s.takes_ignored items (name ∷ outer) =
-    ap (λ (o : Settings). unread_rules o.takes_ignored items (string_bytes stem) names) (sym settings)
-    ∙ ap (λ t. unread_rules s.takes_ignored items t names) visit.3
-    ∙ ap (unread_rules s.takes_ignored items (with_slashes (name ∷ outer))) at.2 in
+    ap (λ (fs : List FolderRules). unread_rules_of (room_after (settings_in old).takes_ignored fs) items (string_bytes stem)) visit.1
+    ∙ ap (λ (o : Settings). unread_rules_of (room_after o.takes_ignored (folders_to o.takes_ignored items outer)) items (string_bytes stem))
+    (sym settings)
+    ∙ ap (unread_rules_of (room_after s.takes_ignored (folders_to s.takes_ignored items outer)) items) visit.3
+    ∙ rules_are s.takes_ignored items (name ∷ outer) in
     let noted : paths_noted new.reader ≡ paths_noted old.reader
     ++ (unread_rules_at s.takes_ignored items (name ∷ outer) ++ unread_folder s items (name ∷ outer)) =
     second
     ∙ ap (λ ps. ps ++ (unlisted_path (string_bytes stem) listed ++ unseen_entries (out_by mid.layers) items (string_bytes stem) names)) first
-    ∙ append_assoc (paths_noted old.reader) (unread_rules (settings_in old).takes_ignored items (string_bytes stem) names)
+    ∙ append_assoc (paths_noted old.reader) (unread_rules_of (room_in old) items (string_bytes stem))
     (unlisted_path (string_bytes stem) listed ++ unseen_entries (out_by mid.layers) items (string_bytes stem) names)
     ∙ ap (λ ps. paths_noted old.reader ++ (ps
     ++ (unlisted_path (string_bytes stem) listed ++ unseen_entries (out_by mid.layers) items (string_bytes stem) names))) rules
@@ -201,7 +209,7 @@ visited_noting items name stem names listed frame old mid new enters more same s
 pub visited_noting_in : {A E : Type 0} (s next : Option Snapshot) (name : List ℕ) (stem : String Global) (names : List (List ℕ))
     (listed : FolderNames) (old mid new : Walk) (r : Result A E) → next ≡ s → InTree s (λ items. Enters items (string_bytes stem) names old mid) →
     all_names mid.layers ≡ all_names old.layers ++ name ∷ [] → mid.frames ≡ old.frames → settings_in mid ≡ settings_in old →
-    new.layers ≡ mid.layers → new.reported ≡ old.reported → EntersNoting s (string_bytes stem) names listed old mid →
+    new.layers ≡ mid.layers → new.reported ≡ old.reported → EntersNoting s (string_bytes stem) listed old mid →
     OnOk r (Opens next stem names mid new) → OnOk r (OpensNoting next (string_bytes stem) names listed mid new) →
     OnOk r (InTree s (λ items. IsVisit items name stem old → VisitsNoting items name old new))
 visited_noting_in s next name stem names listed old mid new (Err e) same enters more frames settings layers reported noting opens notes = tt
@@ -213,7 +221,7 @@ visited_noting_in s next name stem names listed old mid new (Ok x) same enters m
   where
     by_model : (o : Option Snapshot) → InTree o (λ items. Enters items (string_bytes stem) names old mid) →
         InTree o (λ items. paths_noted mid.reader ≡ paths_noted old.reader
-        ++ unread_rules (settings_in old).takes_ignored items (string_bytes stem) names) →
+        ++ unread_rules_of (room_in old) items (string_bytes stem)) →
         InTree o (λ items. is_some listed.fault ≡ is_unlisted (items (folder_path (string_bytes stem)))) →
         InTree o (λ items. AreKeysOf (keys_in opens.0) (keys_taken mid.layers items (string_bytes stem) names)) →
         InTree o (λ items. paths_noted new.reader ≡ paths_noted mid.reader
@@ -448,41 +456,52 @@ more_steps s now first old new same steps keeps all =
 -- what is noted of the rules of one more folder
 pub begin_noted : (s next : Option Snapshot) (start : List (List ℕ)) (stem : List ℕ) (names : List (List ℕ)) (listed : FolderNames)
     (old new : Walk) (before : TreeItems → List (List ℕ)) → next ≡ s → HasEntered s start new stem names →
-    settings_in new ≡ settings_in old → EntersNoting next stem names listed old new →
+    settings_in new ≡ settings_in old → EntersNoting next stem listed old new →
+    InTree s (λ items. folders_in old.layers ≡ folders_above (settings_in old).takes_ignored items (reverse start)) →
     InTree s (λ items. paths_noted old.reader ≡ before items) →
     InTree s (λ items. paths_noted new.reader ≡ before items ++ unread_rules_at (settings_in new).takes_ignored items (reverse start))
     × InTree s (λ items. is_some listed.fault ≡ is_unlisted (items (folder_path stem)))
-begin_noted s next start stem names listed old new before same has settings enters so_far = (
-  by_model s has.at so_far (moved_to s next (λ items. paths_noted new.reader ≡ paths_noted old.reader
-      ++ unread_rules (settings_in old).takes_ignored items stem names) same enters.0),
+begin_noted s next start stem names listed old new before same has settings enters outer so_far = (
+  by_model s outer so_far (moved_to s next (λ items. paths_noted new.reader ≡ paths_noted old.reader
+      ++ unread_rules_of (room_in old) items stem) same enters.0),
   moved_to s next (λ items. is_some listed.fault ≡ is_unlisted (items (folder_path stem))) same enters.1,
 )
   where
-    by_model : (o : Option Snapshot) → InTree o (λ items. IsAt items (reverse start) new names) →
+    by_model : (o : Option Snapshot) →
+        InTree o (λ items. folders_in old.layers ≡ folders_above (settings_in old).takes_ignored items (reverse start)) →
         InTree o (λ items. paths_noted old.reader ≡ before items) →
-        InTree o (λ items. paths_noted new.reader ≡ paths_noted old.reader ++ unread_rules (settings_in old).takes_ignored items stem names) →
+        InTree o (λ items. paths_noted new.reader ≡ paths_noted old.reader ++ unread_rules_of (room_in old) items stem) →
         InTree o (λ items. paths_noted new.reader ≡ before items ++ unread_rules_at (settings_in new).takes_ignored items (reverse start))
     by_model None at so_far one = tt
     by_model (Some tree) at so_far one =
         one
-        ∙ ap (λ ps. ps ++ unread_rules (settings_in old).takes_ignored (item_at tree) stem names) so_far
-        ∙ ap (λ (o : Settings). before (item_at tree) ++ unread_rules o.takes_ignored (item_at tree) stem names) (sym settings)
-        ∙ ap (λ t. before (item_at tree) ++ unread_rules (settings_in new).takes_ignored (item_at tree) t names) has.text
-        ∙ ap (λ ns. before (item_at tree) ++ unread_rules (settings_in new).takes_ignored (item_at tree) (with_slashes (reverse start)) ns) at.1
+        ∙ ap (λ ps. ps ++ unread_rules_of (room_in old) (item_at tree) stem) so_far
+        ∙ ap (λ (fs : List FolderRules). before (item_at tree)
+        ++ unread_rules_of (room_after (settings_in old).takes_ignored fs) (item_at tree) stem) at
+        ∙ ap (λ (o : Settings). before (item_at tree)
+        ++ unread_rules_of (room_after o.takes_ignored (folders_above o.takes_ignored (item_at tree) (reverse start))) (item_at tree) stem)
+        (sym settings)
+        ∙ ap (λ t. before (item_at tree) ++ unread_rules_of (room_after (settings_in new).takes_ignored
+        (folders_above (settings_in new).takes_ignored (item_at tree) (reverse start))) (item_at tree) t) has.text
+        ∙ ap (λ ps. before (item_at tree) ++ ps) (rules_are (settings_in new).takes_ignored (item_at tree) (reverse start))
 
 -- the same after the rules of the folders before
 pub begin_more : (s next : Option Snapshot) (start : List (List ℕ)) (name stem : List ℕ) (names : List (List ℕ)) (listed : FolderNames)
     (old new : Walk) → next ≡ s → HasEntered s (start ++ name ∷ []) new stem names → settings_in new ≡ settings_in old →
-    EntersNoting next stem names listed old new →
+    EntersNoting next stem listed old new →
+    InTree s (λ items. folders_in old.layers ≡ folders_to (settings_in old).takes_ignored items (reverse start)) →
     InTree s (λ items. paths_noted old.reader ≡ unread_rules_to (settings_in old).takes_ignored items (reverse start)) →
     InTree s (λ items. paths_noted new.reader ≡ unread_rules_to (settings_in new).takes_ignored items (reverse (start ++ name ∷ [])))
     × InTree s (λ items. is_some listed.fault ≡ is_unlisted (items (folder_path stem)))
-begin_more s next start name stem names listed old new same has settings enters so_far =
+begin_more s next start name stem names listed old new same has settings enters outer so_far =
     let ti = (settings_in new).takes_ignored in
     let all : List (List ℕ) = start ++ name ∷ [] in
     let above : reverse all ≡ name ∷ reverse start = last_first start name in
     let before : TreeItems → List (List ℕ) = λ items. unread_rules_to (settings_in old).takes_ignored items (reverse start) in
-    let entered = begin_noted s next all stem names listed old new before same has settings enters so_far in (
+    let entered = begin_noted s next all stem names listed old new before same has settings enters
+    (from_one s (λ items. folders_in old.layers ≡ folders_to (settings_in old).takes_ignored items (reverse start))
+    (λ items. folders_in old.layers ≡ folders_above (settings_in old).takes_ignored items (reverse all))
+    (λ items is. is ∙ sym (ap (folders_above (settings_in old).takes_ignored items) above)) outer) so_far in (
       from_one s (λ items. paths_noted new.reader ≡ before items ++ unread_rules_at ti items (reverse all))
           (λ items. paths_noted new.reader ≡ unread_rules_to ti items (reverse all))
           (λ items is.

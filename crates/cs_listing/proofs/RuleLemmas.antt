@@ -11,7 +11,8 @@ use Rattle.cs_listing.specs.Models.{rule_of, glob_of, names}
 use Rattle.cs_listing.specs.Globs.{Element}
 use Rattle.cs_listing.specs.GlobText.{glob_in}
 use Rattle.cs_listing.specs.MatchWork.{path_work, rules_work}
-use Rattle.cs_listing.specs.RuleFiles.{ends_with_byte, without_last, rule_with, rule_saying, rule_of_line}
+use Rattle.cs_listing.specs.Classes.{ends_with_byte}
+use Rattle.cs_listing.specs.RuleFiles.{without_last, rule_with, rule_saying, rule_of_line}
 use Rattle.cs_listing.specs.Reading.{AddsRule}
 use Rattle.cs_listing.specs.declared.rules.Decision.{Decision}
 use Rattle.cs_listing.specs.declared.rules.Rule.{Rule as OwnRule}

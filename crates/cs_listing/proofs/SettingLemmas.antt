@@ -1,15 +1,15 @@
--- The settings of git: lines that give a value, and values as texts.
-use Rattle.std.specs.Prelude.{Option, Some, None, option_map, Result, Ok, Err, IfOk, String, string_bytes, codes}
-use Rattle.std.specs.declared.alloc.AllocError.{AllocError}
-use Rattle.std.specs.Option.{option_or}
+-- The text of git's settings: values as texts, and pieces one after another.
+use Rattle.std.specs.Prelude.{Option, Some, None, IfSome, unwrap_or, Vec}
+use Rattle.std.specs.Option.{option_to_list}
 use Rattle.std.specs.Str.{is_utf8, IsUtf8}
-use Rattle.std.proofs.Common.{◌≡◌, refl, ℕ, Bool, true, false, cond, List, [], ◌∷◌, ◌++◌, ap, sym, subst, ◌∙◌, Vec, Global}
+use Rattle.std.proofs.Common.{◌≡◌, ◌<◌, ◌≤◌, refl, ℕ, zero, suc, Bool, true, false, cond, List, [], ◌∷◌, ◌++◌, length, map, ap, sym, subst, ◌∙◌, arith}
 use Rattle.std.proofs.lemmas.Str.{is_utf8-from_IsUtf8, IsUtf8-from_is_utf8}
-use Rattle.cs_tree.specs.Snapshot.{Snapshot, item_at}
-use Rattle.cs_listing.specs.Rules.{or_else}
-use Rattle.cs_listing.specs.FolderReads.{InTree}
-use Rattle.cs_listing.specs.SettingReads.{bytes_if}
-use Rattle.cs_listing.specs.UserRules.{without_blanks, is_core, value_in_line, Said, said_with, said_after, said_in, as_text, excludes_at, expanded, file_or, user_file}
+use Rattle.std.specs.declared.alloc.Global.{Global}
+use Rattle.std.proofs.lemmas.List.{map-append}
+use Rattle.cs_listing.specs.Settings.{Directive, Piece, Said, piece_in, said_from, text_of}
+use Rattle.cs_listing.specs.SettingReads.{bytes_if, directive_read, directive_if, piece_read, piece_if}
+use Rattle.cs_listing.specs.declared.settings_text.Directive.{Directive as OwnDirective}
+use Rattle.cs_listing.specs.declared.settings_text.Piece.{Piece as OwnPiece}
 
 -- ---- values as texts
 
@@ -17,89 +17,87 @@ is_no_text : (bytes : List ℕ) (b : Bool) → is_utf8 bytes ≡ b → ¬ (IsUtf
 is_no_text bytes true e broken = absurd (broken (IsUtf8-from_is_utf8 bytes e))
 is_no_text bytes false e broken = e
 
-pub is_text : (bytes : List ℕ) → IsUtf8 bytes → as_text (Some bytes) ≡ Some bytes
+pub is_text : (bytes : List ℕ) → IsUtf8 bytes → text_of bytes ≡ Some bytes
 is_text bytes utf8 = ap (λ b. cond b (Some bytes) None) (is_utf8-from_IsUtf8 bytes utf8)
 
-pub no_text : (bytes : List ℕ) → ¬ (IsUtf8 bytes) → as_text (Some bytes) ≡ None
+pub no_text : (bytes : List ℕ) → ¬ (IsUtf8 bytes) → text_of bytes ≡ None
 no_text bytes broken = ap (λ b. cond b (Some bytes) None) (is_no_text bytes (is_utf8 bytes) refl broken)
 
--- ---- lines
+-- ---- pieces
 
-pub first_of : (a b : Option (Vec ℕ Global)) → bytes_if (option_or a b) ≡ or_else (bytes_if a) (bytes_if b)
-first_of None b = refl
-first_of (Some bytes) b = refl
+-- the rest of a text is still to be read, and the whole says this
+pub record Reads (whole : Said) (before : List Directive) (section text : List ℕ) : Type 0 where
+  pub most : ℕ
+  pub enough : length text ≤ most
+  pub says : said_from most before section text ≡ whole
 
-said_more : (said : Said) (lines : List (List ℕ)) (line : List ℕ) →
-    said_after said (lines ++ line ∷ []) ≡ said_with (said_after said lines) (without_blanks line)
-said_more said [] line = refl
-said_more said (first ∷ lines) line = said_more (said_with said (without_blanks first)) lines line
-
--- one more line
-module _ (core now : Bool) (value found : Option (List ℕ)) (lines : List (List ℕ)) (line : List ℕ)
-    (was : core ≡ (said_in lines).core) (last : value ≡ (said_in lines).value)
-    (is : now ≡ is_core core (without_blanks line)) (own : found ≡ value_in_line now (without_blanks line)) where
-  more : said_in (lines ++ line ∷ []) ≡ said_with (said_in lines) (without_blanks line)
-  more = said_more (record { core = false; value = None }) lines line
-
-  in_core : now ≡ is_core (said_in lines).core (without_blanks line)
-  in_core = is ∙ ap (λ b. is_core b (without_blanks line)) was
-
-  pub core_more : now ≡ (said_in (lines ++ line ∷ [])).core
-  core_more = in_core ∙ sym (ap (λ (said : Said). said.core) more)
-
-  pub value_more : or_else found value ≡ (said_in (lines ++ line ∷ [])).value
-  value_more =
-      ap (λ f. or_else f value) (own ∙ ap (λ b. value_in_line b (without_blanks line)) in_core)
-      ∙ ap (λ v. or_else (value_in_line (is_core (said_in lines).core (without_blanks line)) (without_blanks line)) v) last
-      ∙ sym (ap (λ (said : Said). said.value) more)
-
--- ---- the file of a user
-
-abbrev pub Names : Option Snapshot → List ℕ → List ℕ → Option (List ℕ) → Type 0
-Names s folder name path = InTree s (λ items. path ≡ excludes_at items folder name)
-
-module _ (s : Option Snapshot) (home config all : List ℕ) where
-  -- the first file of settings names it
-  first_names : (first : Option (List ℕ)) (path : List ℕ) → first ≡ Some path → Names s home (codes ".gitconfig") first →
-      all ≡ expanded home path → InTree s (λ items. all ≡ user_file items home config)
-  first_names first path is named same = by_model s named
+module _ (whole : Said) (before : List Directive) (section : List ℕ) where
+  pub reads_piece : (text : List ℕ) (piece : Piece) → Reads whole before section text → piece_in section text ≡ Some piece →
+      length piece.rest < length text →
+      Reads whole (before ++ option_to_list piece.directive) (unwrap_or piece.section section) piece.rest
+  reads_piece [] piece reads is shorter = absurd (omega (arith, shorter))
+  reads_piece (b ∷ text) piece reads is shorter = by_most reads.most reads.enough reads.says
     where
-      by_model : (o : Option Snapshot) → Names o home (codes ".gitconfig") first → InTree o (λ items. all ≡ user_file items home config)
-      by_model None named = tt
-      by_model (Some tree) named =
-          same ∙ ap (λ p. file_or home config (or_else p (excludes_at (item_at tree) config (codes "git/config")))) (sym is ∙ named)
+      after : ℕ → Option Piece → Said
+      after n found = unwrap_or (elim found as (λ _. Option Said) [
+        | Some p ↦ Some (said_from n (before ++ option_to_list p.directive) (unwrap_or p.section section) p.rest)
+        | None ↦ None
+      ]) (record { directives = before; is_bad = true })
 
-  -- the first one names none
-  second_names : (now : Option Snapshot) (first second : Option (List ℕ)) → now ≡ s → first ≡ None →
-      Names s home (codes ".gitconfig") first → Names now config (codes "git/config") second →
-      all ≡ file_or home config second → InTree s (λ items. all ≡ user_file items home config)
-  second_names now first second kept is none named same = by_model s none (subst (λ o. Names o config (codes "git/config") second) kept named)
+      by_most : (n : ℕ) → length (b ∷ text) ≤ n → said_from n before section (b ∷ text) ≡ whole →
+          Reads whole (before ++ option_to_list piece.directive) (unwrap_or piece.section section) piece.rest
+      by_most zero enough says = absurd (omega (arith, enough))
+      by_most (suc n) enough says = record { most = n; enough = omega (arith, enough, shorter); says = ap (after n) (sym is) ∙ says }
+
+  pub reads_bad : (text : List ℕ) → Reads whole before section text → piece_in section text ≡ None → 0 < length text →
+      whole ≡ record { directives = before; is_bad = true }
+  reads_bad [] reads is more = absurd (omega (arith, more))
+  reads_bad (b ∷ text) reads is more = by_most reads.most reads.enough reads.says
     where
-      by_model : (o : Option Snapshot) → Names o home (codes ".gitconfig") first → Names o config (codes "git/config") second →
-          InTree o (λ items. all ≡ user_file items home config)
-      by_model None none named = tt
-      by_model (Some tree) none named =
-          same
-          ∙ ap (file_or home config) named
-          ∙ ap (λ p. file_or home config (or_else p (excludes_at (item_at tree) config (codes "git/config")))) (sym is ∙ none)
+      after : ℕ → Option Piece → Said
+      after n found = unwrap_or (elim found as (λ _. Option Said) [
+        | Some p ↦ Some (said_from n (before ++ option_to_list p.directive) (unwrap_or p.section section) p.rest)
+        | None ↦ None
+      ]) (record { directives = before; is_bad = true })
 
--- the path of the file, if memory is not out
-module _ (s : Option Snapshot) (home config : List ℕ) (first : Option (String Global))
-    (named : Names s home (codes ".gitconfig") (option_map string_bytes first)) where
-  pub first_file : (path : String Global) (result : Result (String Global) AllocError) → first ≡ Some path →
-      IfOk result (λ all. string_bytes all ≡ expanded home (string_bytes path)) →
-      IfOk result (λ all. InTree s (λ items. string_bytes all ≡ user_file items home config))
-  first_file path (Ok all) is same =
-      first_names s home config (string_bytes all) (option_map string_bytes first) (string_bytes path)
-      (ap (option_map string_bytes) is) named same
-  first_file path (Err fault) is same = tt
+      by_most : (n : ℕ) → length (b ∷ text) ≤ n → said_from n before section (b ∷ text) ≡ whole →
+          whole ≡ record { directives = before; is_bad = true }
+      by_most zero enough says = absurd (omega (arith, enough))
+      by_most (suc n) enough says = sym says ∙ ap (after n) is
 
-  pub second_file : (now : Option Snapshot) (second known : Option (String Global)) (result : Result (String Global) AllocError) →
-      now ≡ s → first ≡ None → second ≡ known → Names now config (codes "git/config") (option_map string_bytes second) →
-      IfOk result (λ all. string_bytes all ≡ file_or home config (option_map string_bytes known)) →
-      IfOk result (λ all. InTree s (λ items. string_bytes all ≡ user_file items home config))
-  second_file now second known (Ok all) kept none is own same =
-      second_names s home config (string_bytes all) now (option_map string_bytes first) (option_map string_bytes second) kept
-      (ap (option_map string_bytes) none) named own
-      (same ∙ ap (λ p. file_or home config (option_map string_bytes p)) (sym is))
-  second_file now second known (Err fault) kept none is own same = tt
+  pub reads_end : (text : List ℕ) → Reads whole before section text → length text ≡ 0 →
+      whole ≡ record { directives = before; is_bad = false }
+  reads_end [] reads none = by_most reads.most reads.says
+    where
+      by_most : (n : ℕ) → said_from n before section [] ≡ whole → whole ≡ record { directives = before; is_bad = false }
+      by_most zero says = sym says
+      by_most (suc n) says = sym says
+  reads_end (b ∷ text) reads none = absurd (omega (arith, none))
+
+-- the piece that the code read
+
+directives_more : (before : List OwnDirective) (directive : Option OwnDirective) →
+    map directive_read (before ++ option_to_list directive) ≡ map directive_read before ++ option_to_list (directive_if directive)
+directives_more before None = map-append directive_read before []
+directives_more before (Some directive) = map-append directive_read before (directive ∷ [])
+
+section_after : (begun : Option (Vec ℕ Global)) (section : Vec ℕ Global) →
+    unwrap_or (bytes_if begun) section.items ≡ (unwrap_or begun section).items
+section_after None section = refl
+section_after (Some begun) section = refl
+
+pub next_piece : (whole : Said) (before after : List OwnDirective) (section begun : Vec ℕ Global) (text name : List ℕ)
+    (found : Option OwnPiece) (piece : OwnPiece) → Reads whole (map directive_read before) section.items text → name ≡ section.items →
+    piece_if found ≡ piece_in name text → IfSome found (λ (p : OwnPiece). length p.rest.now < length text) → found ≡ Some piece →
+    after ≡ before ++ option_to_list piece.directive → begun ≡ unwrap_or piece.section section →
+    Reads whole (map directive_read after) begun.items piece.rest.now
+next_piece whole before after section begun text name found piece reads named says shorter is pushed kept =
+    let read : piece_in section.items text ≡ Some (piece_read piece) =
+    ap (λ (n : List ℕ). piece_in n text) (sym named) ∙ sym says ∙ ap piece_if is in
+    let less : length piece.rest.now < length text =
+    subst (λ (f : Option OwnPiece). IfSome f (λ (p : OwnPiece). length p.rest.now < length text)) is shorter in
+    let next = reads_piece whole (map directive_read before) section.items text (piece_read piece) reads read less in
+    subst (λ (ds : List Directive). Reads whole ds begun.items piece.rest.now)
+    (sym (directives_more before piece.directive) ∙ ap (map directive_read) (sym pushed))
+    (subst (λ (s : List ℕ). Reads whole (map directive_read before ++ option_to_list (directive_if piece.directive)) s piece.rest.now)
+    (section_after piece.section section ∙ ap (λ (v : Vec ℕ Global). v.items) (sym kept)) next)

@@ -13,6 +13,7 @@ use Rattle.cs_tree.specs.Clean.{path_of, with_slashes, longest_path}
 use Rattle.std.specs.Option.{option_to_list}
 use Rattle.std.proofs.lemmas.List.{reverse-reverse, map-append, length-append}
 use Rattle.cs_listing.specs.Models.{all_names, folder_of, folder_name, folders_of, folders_in, chosen_in, settings_of, KeepsChoices}
+use Rattle.cs_listing.specs.Layers.{room_after}
 use Rattle.cs_listing.specs.Listing.{Settings, TreeItems, folders_to, folder_at}
 use Rattle.cs_listing.specs.FolderReads.{InTree, entry_path, keys_taken, key_of}
 use Rattle.cs_listing.specs.Entries.{entry_key, AreKeysOf, IsNameOf}
@@ -97,7 +98,8 @@ module _ (ti : Bool) (items : TreeItems) (old new : Layers) (left : Option OwnFo
   by_last None is all = cc
   by_last (Some last) is all =
       let outer : folders_in new ≡ folders_to ti items above =
-      append_last (folders_in new) (folders_to ti items above) (folder_of last) (folder_at ti items (name ∷ above))
+      append_last (folders_in new) (folders_to ti items above) (folder_of last)
+      (folder_at (room_after ti (folders_to ti items above)) items (name ∷ above))
       (sym (ap folders_of all ∙ map-append folder_of new.folders.items (last ∷ [])) ∙ rules) in
       let names : all_names old ≡ all_names new ++ folder_name last ∷ [] =
       ap (map folder_name) all ∙ map-append folder_name new.folders.items (last ∷ []) in

@@ -5,8 +5,9 @@ use Rattle.std.specs.FinMap.{find}
 use Rattle.cs_tree.specs.NameOrder.{bytes_cmp}
 use Rattle.cs_tree.specs.Snapshot.{Item, folder, file, other, bad, missing, denied, failed}
 use Rattle.cs_listing.specs.Choices.{plain_settings}
+use Rattle.cs_listing.specs.GitFolders.{repository_above}
 use Rattle.cs_listing.specs.Listing.{Settings, TreeItems}
-use Rattle.cs_listing.specs.Unreadable.{unread_common, unread_rules_at, unread_rules_to, unread_folder, opens}
+use Rattle.cs_listing.specs.Unreadable.{unread_rules_at, unread_rules_to, unread_folder, opens}
 use Rattle.cs_listing.specs.Types.{file_types, globs_among}
 
 abbrev settings : Settings
@@ -17,9 +18,16 @@ tree =
     (codes "/", folder (codes ".gitignore" ∷ codes "p" ∷ []) false)
     ∷ (codes "/.gitignore", bad denied)
     ∷ (codes "/p", folder (codes ".git" ∷ codes ".ignore" ∷ codes "a" ∷ codes "b" ∷ codes "gone" ∷ codes "l" ∷ []) true)
-    ∷ (codes "/p/.git", folder (codes "info" ∷ []) false)
+    ∷ (codes "/p/.git", folder (codes "HEAD" ∷ codes "info" ∷ codes "objects" ∷ codes "refs" ∷ []) false)
+    ∷ (codes "/p/.git/HEAD", file [])
     ∷ (codes "/p/.git/info/exclude", bad denied)
-    ∷ (codes "/g/w/commondir", bad failed)
+    ∷ (codes "/p/.git/objects", other)
+    ∷ (codes "/p/.git/refs", folder [] false)
+    ∷ (codes "/w", bad failed)
+    ∷ (codes "/w/.git", folder [] false)
+    ∷ (codes "/w/.git/commondir", bad failed)
+    ∷ (codes "/w/.git/HEAD", bad denied)
+    ∷ (codes "/w/.ignore", bad denied)
     ∷ (codes "/p/.ignore", file (codes "/a"))
     ∷ (codes "/p/a", bad denied)
     ∷ (codes "/p/b", folder (codes "c" ∷ []) false)
@@ -33,8 +41,15 @@ items path = unwrap_or (find bytes_cmp path tree) (bad missing)
 rules_of_a_repository : unread_rules_at false items (codes "p" ∷ []) ≡ codes "/p/.git/info/exclude" ∷ []
 rules_of_a_repository = refl
 
-file_of_a_worktree : unread_common items (codes "/p") (Some (codes "/g/w")) ≡ codes "/g/w/commondir" ∷ []
-file_of_a_worktree = refl
+-- where nothing can be listed, `.git` is looked up by name; what cannot be looked up is not there
+folder_that_cannot_be_listed : unread_rules_at false items (codes "w" ∷ []) ≡ codes "/w/.git/commondir" ∷ codes "/w/.git/HEAD" ∷ []
+folder_that_cannot_be_listed = refl
+
+nearest_repository : repository_above items (codes "b" ∷ codes "p" ∷ []) ≡ Some (codes "/p", codes "/p/.git")
+nearest_repository = refl
+
+no_repository : repository_above items (codes "w" ∷ []) ≡ None
+no_repository = refl
 
 rules_above : unread_rules_to false items (codes "p" ∷ []) ≡ codes "/.gitignore" ∷ codes "/p/.git/info/exclude" ∷ []
 rules_above = refl

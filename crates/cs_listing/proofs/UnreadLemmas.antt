@@ -1,9 +1,9 @@
 -- Each path that cannot be read is noted, or is to come: what is read of a folder, and how a walk goes on.
-use Rattle.std.specs.Prelude.{Option, Some, None, bytes_eq, codes, String, string_bytes}
+use Rattle.std.specs.Prelude.{Option, Some, None, option_map, bytes_eq, codes, String, string_bytes}
 use Rattle.std.specs.Path.{slash}
 use Rattle.std.specs.declared.alloc.Global.{Global}
 use Rattle.std.specs.Cmp.Lexicographic.{bytes_decides}
-use Rattle.std.proofs.Common.{◌≡◌, ◌≢◌, ◌↔◌, ◌⊎◌, inl, inr, refl, ℕ, Bool, true, false, ◌&&◌, ◌||◌, if◌then◌else◌, List, [], ◌∷◌, ◌++◌, drop, take, map, length, get_or, ◌+◌, ◌<◌, ◌≤◌, sym, ap, subst, ◌∙◌, append_assoc}
+use Rattle.std.proofs.Common.{◌≡◌, ◌≢◌, ◌↔◌, ◌⊎◌, inl, inr, refl, ℕ, Bool, true, false, ◌&&◌, ◌||◌, if◌then◌else◌, List, [], ◌∷◌, ◌++◌, drop, take, map, length, get_or, ◌+◌, ◌-◌, ◌<◌, ◌≤◌, sym, ap, subst, ◌∙◌, append_assoc}
 use Rattle.std.proofs.lemmas.Bool.{true≢false, and_parts, and_from, or_cases, or_left, or_right}
 use Rattle.std.proofs.lemmas.List.{append-nil, append_cancel_right, take_all}
 use Rattle.std.proofs.lemmas.Grind.{flat_map-append}
@@ -12,13 +12,16 @@ use Rattle.cs_tree.specs.Snapshot.{Snapshot, item_at}
 use Rattle.cs_tree.specs.Elements.{is_among, is_element}
 use Rattle.cs_tree.specs.Clean.{path_of}
 use Rattle.cs_tree.proofs.NameLemmas.{mapped_more}
-use Rattle.cs_listing.specs.GitFolders.{git_folder}
-use Rattle.cs_listing.specs.Listing.{Settings, TreeItems, exclude_path, is_taken, down}
-use Rattle.cs_listing.specs.FolderReads.{InTree, entry_path, key_of}
-use Rattle.cs_listing.specs.Unreadable.{IsUnreadFrom, unread_file, unread_git, unread_exclude, unread_rules_at, unread_folder, unseen, unseen_entry, unseen_entries, is_folder, opens}
+use Rattle.cs_listing.specs.Listing.{Settings, TreeItems, bytes_within, left_after, is_taken, down}
+use Rattle.cs_listing.specs.GitFolders.{root_at}
+use Rattle.cs_listing.specs.FolderReads.{InTree, entry_path, bytes_among, key_of}
+use Rattle.cs_listing.specs.Unreadable.{IsUnreadFrom, unread_within, unread_among, unread_exclude, unread_root, unread_files, unread_rules, unread_rules_at, unread_folder, unseen, unseen_entry, unseen_entries, is_folder, opens}
 use Rattle.cs_listing.specs.ReportsAll.{paths_noted, Notes, ComesUnread}
 use Rattle.cs_listing.specs.Walk.{with_key}
+use Rattle.cs_listing.specs.Entries.{repository_folders}
+use Rattle.cs_listing.specs.declared.git_folders.GitFolders.{GitFolders}
 use Rattle.cs_listing.specs.declared.entries.FolderReader.{FolderReader}
+use Rattle.cs_listing.proofs.FolderLemmas.{rest_is, last_is}
 use Rattle.cs_listing.proofs.KeyLemmas.{same_eq, apart_eq, file_key}
 
 -- ---- facts of a tree
@@ -60,23 +63,67 @@ notes_after s a b c more q one =
     from_one s (λ items. paths_noted c ≡ paths_noted b ++ q items) (λ items. paths_noted c ≡ paths_noted a ++ (more ++ q items))
     (λ items two. two ∙ ap (λ ps. ps ++ q items) one ∙ append_assoc (paths_noted a) more (q items))
 
--- the files that the rules of a repository come from
-pub exclude_noted : (s next : Option Snapshot) (a b c : FolderReader) (stem folder text : List ℕ) (names : List (List ℕ)) →
-    next ≡ s → text ≡ folder → is_among names (codes ".git") ≡ true → InTree s (λ items. folder ≡ git_folder items stem) →
-    Notes s a b (λ items. unread_git items stem) → Notes next b c (λ items. unread_file items (entry_path text (codes "info/exclude"))) →
-    Notes s a c (λ items. unread_exclude items stem names)
-exclude_noted s next a b c stem folder text names same at listed found first second =
-    let noted = paths_noted a in
-    from_two s (λ items. folder ≡ git_folder items stem)
-    (λ items. paths_noted c ≡ noted ++ (unread_git items stem ++ unread_file items (entry_path text (codes "info/exclude"))))
-    (λ items. paths_noted c ≡ noted ++ unread_exclude items stem names)
-    (λ items is both.
-    both
-    ∙ ap (λ t. noted ++ (unread_git items stem ++ unread_file items (entry_path t (codes "info/exclude")))) (at ∙ is)
-    ∙ sym (ap (λ b. noted ++ (if b then unread_git items stem ++ unread_file items (exclude_path items stem) else [])) listed))
-    found
-    (notes_then s next a b c (λ items. unread_git items stem) (λ items. unread_file items (entry_path text (codes "info/exclude")))
-    same first second)
+-- the rules that a repository has for itself
+pub exclude_noted : (s : Option Snapshot) (a b : FolderReader) (own : Option GitFolders) (folders : GitFolders) (text : List ℕ)
+    (room : ℕ) → own ≡ Some folders → text ≡ string_bytes folders.shared →
+    Notes s a b (λ items. unread_within room items (entry_path text (codes "info/exclude"))) →
+    Notes s a b (λ items. unread_exclude room items (option_map repository_folders own))
+exclude_noted s a b own folders text room is at =
+    notes_as s a b (λ items. unread_within room items (entry_path text (codes "info/exclude")))
+    (λ items. unread_exclude room items (option_map repository_folders own))
+    (λ items. ap (λ t. unread_within room items (entry_path t (codes "info/exclude"))) at
+    ∙ sym (ap (λ o. unread_exclude room items (option_map repository_folders o)) is))
+
+-- the rule files of a folder, each within what is left for it
+pub texts_noted : (s first second : Option Snapshot) (a b c d : FolderReader) (stem : List ℕ) (names : List (List ℕ))
+    (folders : Option (List ℕ × List ℕ)) (room rest last : ℕ) (i g : List ℕ) → first ≡ s → second ≡ first →
+    rest ≡ room - length i → last ≡ rest - length g →
+    InTree s (λ items. i ≡ bytes_within room (bytes_among items stem names (codes ".ignore"))) →
+    InTree first (λ items. g ≡ bytes_within rest (bytes_among items stem names (codes ".gitignore"))) →
+    Notes s a b (λ items. unread_among room items stem names (codes ".ignore")) →
+    Notes first b c (λ items. unread_among rest items stem names (codes ".gitignore")) →
+    Notes second c d (λ items. unread_exclude last items folders) → Notes s a d (λ items. unread_files room items stem names folders)
+texts_noted s first second a b c d stem names folders room rest last i g same later of_rest of_last of_i of_g one two three =
+    by_model s of_i (moved_to s first (λ items. g ≡ bytes_within rest (bytes_among items stem names (codes ".gitignore"))) same of_g)
+    (notes_then s first a b d (λ items. unread_among room items stem names (codes ".ignore"))
+    (λ items. unread_among rest items stem names (codes ".gitignore") ++ unread_exclude last items folders) same one
+    (notes_then first second b c d (λ items. unread_among rest items stem names (codes ".gitignore"))
+    (λ items. unread_exclude last items folders) later two three))
+  where
+    by_model : (o : Option Snapshot) → InTree o (λ items. i ≡ bytes_within room (bytes_among items stem names (codes ".ignore"))) →
+        InTree o (λ items. g ≡ bytes_within rest (bytes_among items stem names (codes ".gitignore"))) →
+        Notes o a d (λ items. unread_among room items stem names (codes ".ignore")
+        ++ (unread_among rest items stem names (codes ".gitignore") ++ unread_exclude last items folders)) →
+        Notes o a d (λ items. unread_files room items stem names folders)
+    by_model None of_i of_g noted = tt
+    by_model (Some tree) of_i of_g noted =
+        let items = item_at tree in
+        let whole = bytes_among items stem names (codes ".ignore") in
+        let more = bytes_among items stem names (codes ".gitignore") in
+        let before = unread_among room items stem names (codes ".ignore") in
+        noted
+        ∙ ap (λ n. paths_noted a ++ (before ++ (unread_among n items stem names (codes ".gitignore") ++ unread_exclude last items folders)))
+        (rest_is room rest last i g whole more of_rest of_last of_i of_g)
+        ∙ ap (λ n. paths_noted a ++ (before
+        ++ (unread_among (left_after room whole) items stem names (codes ".gitignore") ++ unread_exclude n items folders)))
+        (last_is room rest last i g whole more of_rest of_last of_i of_g)
+
+-- what the rules of a folder come from
+pub folder_noted : (s next : Option Snapshot) (a b c : FolderReader) (stem : List ℕ) (names : List (List ℕ)) (given : Option ℕ) (room : ℕ)
+    (own : Option GitFolders) → given ≡ Some room → next ≡ s →
+    InTree s (λ items. option_map repository_folders own ≡ root_at items stem names) →
+    Notes s a b (λ items. unread_root items stem names) →
+    Notes next b c (λ items. unread_files room items stem names (option_map repository_folders own)) →
+    Notes s a c (λ items. unread_rules given items stem names)
+folder_noted s next a b c stem names given room own is same root one two =
+    let folders = option_map repository_folders own in
+    from_two s (λ items. folders ≡ root_at items stem names)
+    (λ items. paths_noted c ≡ paths_noted a ++ (unread_root items stem names ++ unread_files room items stem names folders))
+    (λ items. paths_noted c ≡ paths_noted a ++ unread_rules given items stem names)
+    (λ items begun noted. noted
+    ∙ ap (λ f. paths_noted a ++ (unread_root items stem names ++ unread_files room items stem names f)) begun
+    ∙ sym (ap (λ r. paths_noted a ++ unread_rules r items stem names) is))
+    root (notes_then s next a b c (λ items. unread_root items stem names) (λ items. unread_files room items stem names folders) same one two)
 
 -- one more entry
 pub more_noted : (s now : Option Snapshot) (a b c : FolderReader) (out : List ℕ → Bool → Bool) (stem : List ℕ)

@@ -11,8 +11,8 @@ use Rattle.cs_tree.specs.Elements.{is_element, are_elements, are_distinct}
 use Rattle.cs_tree.specs.Folders.{names_listed}
 use Rattle.cs_tree.specs.Clean.{path_of, with_slashes, longest_path}
 use Rattle.cs_listing.specs.Models.{folder_of, folder_name, folders_in, names_in, all_names, settings_of}
-use Rattle.cs_listing.specs.Layers.{FolderRules}
-use Rattle.cs_listing.specs.Listing.{Settings, TreeItems, folders_to, folder_at}
+use Rattle.cs_listing.specs.Layers.{FolderRules, room_after}
+use Rattle.cs_listing.specs.Listing.{Settings, TreeItems, rule_names, folders_to, folder_at}
 use Rattle.cs_listing.specs.FolderReads.{key_of, keys_taken, folder_path, folder_read}
 use Rattle.cs_listing.specs.Entries.{AreKeysOf}
 use Rattle.cs_listing.specs.Walk.{is_to_come, settings_in, above_in, keys_in, keys_of_all, frames_in, IsOpen, AreAround, IsOf, IsVisit, Visits, Enters, with_key}
@@ -37,7 +37,7 @@ above_more (x ∷ all) name some = last_first all name
 pub some_folders : (ti : Bool) (items : TreeItems) (above : List (List ℕ)) → 0 < length (folders_to ti items above)
 some_folders ti items [] = omega arith
 some_folders ti items (name ∷ above) =
-    omega (arith, length-append (folders_to ti items above) (folder_at ti items (name ∷ above) ∷ []))
+    omega (arith, length-append (folders_to ti items above) (folder_at (room_after ti (folders_to ti items above)) items (name ∷ above) ∷ []))
 
 pub names_count : (layers : Layers) → length (all_names layers) ≡ length (folders_in layers)
 names_count layers = length-map layers.folders.items folder_name ∙ sym (length-map layers.folders.items folder_of)
@@ -96,11 +96,11 @@ pub entered_at : (items : TreeItems) (name : List ℕ) (stem : String Global) (n
 entered_at items name stem names old mid enters more settings visit =
     let outer = above_in old.layers in
     let ti = (settings_in old).takes_ignored in
-    let read = folder_is ti items (name ∷ outer) names (enters.0 ∙ ap (λ t. names_listed (items (folder_path t))) visit.3) in (
+    let read = folder_is (room_after ti (folders_to ti items outer)) items (name ∷ outer) names (enters.0 ∙ ap (λ t. names_listed (items (folder_path t))) visit.3) in (
       ap (λ (all : List (List ℕ)). reverse (drop 1 all)) more
           ∙ above_more (all_names old.layers) name (some_names ti items old.layers visit.1),
-      enters.2 ∙ ap (λ (fs : List FolderRules). fs ++ folder_read ti items (string_bytes stem) names ∷ []) visit.1
-          ∙ ap (λ t. folders_to ti items outer ++ folder_read ti items t names ∷ []) visit.3
+      enters.2 ∙ ap (λ (fs : List FolderRules). fs ++ folder_read (room_after ti fs) items (string_bytes stem) (rule_names items (string_bytes stem) (items (folder_path (string_bytes stem)))) ∷ []) visit.1
+          ∙ ap (λ t. folders_to ti items outer ++ folder_read (room_after ti (folders_to ti items outer)) items t (rule_names items t (items (folder_path t))) ∷ []) visit.3
           ∙ ap (λ f. folders_to ti items outer ++ f ∷ []) read.1
           ∙ sym (ap (λ (s : Settings). folders_to s.takes_ignored items (name ∷ outer)) settings),
       read.0,

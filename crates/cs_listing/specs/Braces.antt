@@ -1,12 +1,15 @@
 -- Braces in the globs of a user, as of rg and of bash(1), "Brace Expansion": `a{b,c}` stands for `ab` and `ac`. Rule files have
 -- none. docs/PROMISES.md, "Rules".
 use Rattle.std.specs.Prelude.{ℕ, ◌≡◌, zero, suc, ◌-◌, Bool, true, false, nat_le, if◌then◌else◌, List, [], ◌∷◌, ◌++◌, take, drop, map, length, filter_map, Option, Some, None, option_map, codes, bytes_eq}
+use Rattle.std.specs.List.{list_all}
+use Rattle.std.specs.Path.{slash}
 use Rattle.cs_listing.specs.declared.rules.Decision.{Decision}
 use Rattle.cs_listing.specs.declared.rules.Decision.TheVariants.{Ignore, TakeBack}
+use Rattle.cs_listing.specs.Globs.{can_match}
 use Rattle.cs_listing.specs.Classes.{begins_with}
-use Rattle.cs_listing.specs.GlobText.{first_token}
+use Rattle.cs_listing.specs.GlobText.{first_token, glob_in}
 use Rattle.cs_listing.specs.Rules.{Rule}
-use Rattle.cs_listing.specs.RuleFiles.{rule_saying}
+use Rattle.cs_listing.specs.RuleFiles.{without_last, rule_saying}
 
 -- ---- pieces
 
@@ -81,8 +84,17 @@ alternatives text = texts_after (Some at_beginning) (pieces_in text)
 
 -- ---- the globs of a user, as rules
 
+-- whether a text is that of a glob: without a slash at its end, it can match something
+abbrev pub is_glob : List ℕ → Bool
+is_glob text = can_match (glob_in (without_last slash text))
+
+-- the globs of texts, if each is that of one
+abbrev pub all_saying : Decision → Option (List (List ℕ)) → Option (List Rule)
+all_saying decision None = None
+all_saying decision (Some texts) = if list_all is_glob texts then Some (filter_map (rule_saying decision) texts) else None
+
 abbrev pub globs_saying : Decision → List ℕ → Option (List Rule)
-globs_saying decision text = option_map (filter_map (rule_saying decision)) (alternatives text)
+globs_saying decision text = all_saying decision (alternatives text)
 
 -- `!` before all of them is said by each
 abbrev pub globs_in : List ℕ → Option (List Rule)

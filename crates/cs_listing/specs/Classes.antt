@@ -1,6 +1,7 @@
--- Classes in the text of a glob, as in `[a-z]`, `[!0-9]` and `[[:alpha:]]`: fnmatch(3), regex(7). The bytes are 45 for `-`,
--- 92 for a backslash, 93 for `]`, and 97 to 122 for small letters.
-use Rattle.std.specs.Prelude.{ℕ, zero, suc, length, ◌+◌, ◌-◌, max, Bool, false, not, ◌&&◌, nat_eq, nat_le, if◌then◌else◌, List, [], ◌∷◌, ◌++◌, drop, take, Option, Some, None, codes, bytes_eq}
+-- Classes in the text of a glob, as in `[a-z]`, `[!0-9]` and `[[:alpha:]]`: fnmatch(3), and wildmatch.c of git. The bytes are
+-- 45 for `-`, 58 for `:`, 92 for a backslash and 93 for `]`.
+use Rattle.std.specs.Prelude.{ℕ, zero, suc, length, ◌+◌, ◌-◌, max, Bool, false, not, ◌&&◌, nat_eq, nat_lt, if◌then◌else◌, List, [], ◌∷◌, ◌++◌, drop, take, Option, Some, None, codes, bytes_eq}
+use Rattle.std.specs.List.{before_first}
 
 -- What is read of a text: ranges, and the length of their text. None if they are no part of a class.
 abbrev pub ItemsRead : Type 0
@@ -10,6 +11,12 @@ ItemsRead = Option (List (ℕ × ℕ) × ℕ)
 abbrev pub begins_with : ℕ → List ℕ → Bool
 begins_with b [] = false
 begins_with b (first ∷ text) = nat_eq first b
+
+-- whether the last byte of a text is this one
+abbrev pub ends_with_byte : ℕ → List ℕ → Bool
+ends_with_byte b [] = false
+ends_with_byte b (last ∷ []) = nat_eq last b
+ends_with_byte b (first ∷ next ∷ text) = ends_with_byte b (next ∷ text)
 
 -- ---- bytes, which a backslash may quote
 
@@ -41,15 +48,15 @@ ranges_named name =
     else (if bytes_eq name (codes "upper") then Some ((65, 90) ∷ [])
     else (if bytes_eq name (codes "xdigit") then Some ((48, 57) ∷ (65, 70) ∷ (97, 102) ∷ []) else None)))))))))))
 
--- how many small letters a text begins with
-abbrev pub letters : List ℕ → ℕ
-letters [] = 0
-letters (b ∷ text) = if nat_le 97 b && nat_le b 122 then letters text + 1 else 0
+-- the bytes before the first `]`
+abbrev pub before_bracket : List ℕ → List ℕ
+before_bracket text = before_first (λ b. nat_eq b 93) text
 
--- the name after `[:`, if letters and `:]` follow
+-- The name after `[:` is what comes before the first `]`, if that ends in `:`, without the `:`. Otherwise the `[` is a byte.
 abbrev pub closed_name : List ℕ → Option (List ℕ)
 closed_name text =
-    if bytes_eq (take 2 (drop (letters text) text)) (codes ":]") then Some (take (letters text) text) else None
+    if nat_lt (length (before_bracket text)) (length text) && ends_with_byte 58 (before_bracket text)
+    then Some (take (length (before_bracket text) - 1) (before_bracket text)) else None
 
 abbrev pub class_name : List ℕ → Option (List ℕ)
 class_name text = if bytes_eq (take 2 text) (codes "[:") then closed_name (drop 2 text) else None

@@ -1,11 +1,14 @@
 -- The entries of a folder, as the code has them.
 use denote.Ref.{Bor}
-use Rattle.std.specs.Prelude.{ℕ, ◌≡◌, Bool, true, List, map, reverse, string_bytes}
+use Rattle.std.specs.Prelude.{ℕ, ◌≡◌, Bool, true, List, Option, Some, None, Vec, String, map, reverse, string_bytes}
 use Rattle.cs_tree.specs.Elements.{is_among, is_element}
 use Rattle.cs_listing.specs.Layers.{is_left_out}
 use Rattle.cs_listing.specs.Models.{names, settings_of, folders_in}
 use Rattle.cs_listing.specs.FolderReads.{key_of}
+use Rattle.cs_listing.specs.declared.git_folders.FoundRepository.{FoundRepository}
+use Rattle.cs_listing.specs.declared.git_folders.GitFolders.{GitFolders}
 use Rattle.cs_listing.specs.declared.entries.Entry.{Entry}
+use Rattle.cs_listing.specs.declared.entries.FolderNames.{FolderNames}
 use Rattle.cs_listing.specs.declared.entries.Taken.{Taken}
 use Rattle.cs_listing.specs.declared.layers.Layers.{Layers}
 
@@ -14,6 +17,22 @@ taken_folder taken = taken.is_folder
 
 abbrev pub entry_key : Entry → List ℕ
 entry_key entry = string_bytes entry.key
+
+-- the names by which the rules of a folder are looked up: those that it lists, or where it cannot be listed those that are there
+abbrev pub names_unless : {A B : Type 0} → Option (Vec (String A) B) → List (List ℕ) → List (List ℕ)
+names_unless None listed = listed
+names_unless (Some there) listed = map string_bytes there.items
+
+abbrev pub names_for_rules : FolderNames → List (List ℕ)
+names_for_rules listed = names_unless listed.there (map string_bytes listed.names.items)
+
+-- the git folder of a repository, and the folder that its worktrees share
+abbrev pub repository_folders : GitFolders → List ℕ × List ℕ
+repository_folders folders = (string_bytes folders.own, string_bytes folders.shared)
+
+-- the root of a repository, and its git folder
+abbrev pub repository_found : FoundRepository → List ℕ × List ℕ
+repository_found found = (string_bytes found.root, string_bytes found.git)
 
 -- the keys of entries that are popped from the end
 abbrev pub entry_keys : List Entry → List (List ℕ)

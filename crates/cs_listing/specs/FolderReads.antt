@@ -1,20 +1,21 @@
 -- What reading a folder and its rule files returns. Of a tree without a model nothing is said.
-use Rattle.std.specs.Prelude.{ℕ, ◌≡◌, Bool, true, false, if◌then◌else◌, nat_le, List, [], ◌∷◌, ◌++◌, filter_map, length, Option, Some, None, option_map, IfSome, Result, Ok, Err, Vec, codes, bytes_eq}
+use Rattle.std.specs.Prelude.{ℕ, ◌≡◌, Bool, true, false, if◌then◌else◌, nat_le, List, [], ◌∷◌, ◌++◌, filter_map, length, Option, Some, None, option_map, is_some, IfSome, Result, Ok, Err, Vec, codes, bytes_eq}
 use Rattle.std.specs.Path.{slash}
 use Rattle.cs_tree.specs.Snapshot.{Snapshot, Item, item_at, folder, file, cut, other, bad, missing, denied, failed}
 use Rattle.cs_tree.specs.Clean.{longest_path}
-use Rattle.cs_tree.specs.TreeAnswers.{fault_of}
+use Rattle.cs_tree.specs.TreeAnswers.{fault_of, opening_of}
+use Rattle.cs_tree.specs.StreamModels.{SourceModel}
 use Rattle.cs_tree.specs.declared.fault.TreeFault.{TreeFault}
 use Rattle.cs_tree.specs.declared.fault.TreeFault.TheVariants.{Missing, Failed, Memory}
 use Rattle.cs_tree.specs.declared.tree.Kind.{Kind}
 use Rattle.cs_tree.specs.declared.tree.Kind.TheVariants as kind
 use Rattle.cs_tree.specs.Elements.{is_among}
 use Rattle.cs_tree.specs.Walks.{is_file}
-use Rattle.cs_listing.specs.Rules.{Rule}
 use Rattle.cs_listing.specs.Layers.{FolderRules, without_rules, is_left_out}
 use Rattle.cs_listing.specs.Models.{settings_of, folders_in, names_in}
 use Rattle.cs_listing.specs.RuleFileReads.{longest_rule_file}
-use Rattle.cs_listing.specs.Listing.{TreeItems, bytes_of_item, rules_of_item, exclude_path}
+use Rattle.cs_listing.specs.GitFolders.{root_at}
+use Rattle.cs_listing.specs.Listing.{TreeItems, bytes_of_item, exclude_bytes, folder_within}
 use Rattle.cs_listing.specs.declared.fault.ListFault.{ListFault}
 use Rattle.cs_listing.specs.declared.fault.ListFault.TheVariants.{Tree, LongRules}
 use Rattle.cs_listing.specs.declared.layers.Layers.{Layers}
@@ -50,8 +51,17 @@ ReadsItem item (Err Memory) = Unit {0}
 ReadsItem item (Err Missing) = HasNoBytes item None
 ReadsItem item (Err fault) = HasNoBytes item (Some (Tree fault))
 
+-- the file that is open in a modelled tree is read from its beginning
+abbrev pub ReadsOpen : {A : Type 0} → Option Snapshot → Option SourceModel → Result (Option (Vec ℕ A)) TreeFault → Type 0
+ReadsOpen snapshot opened result = IfSome snapshot (λ tree. IfSome opened (λ source. (item : Item) →
+    opening_of item ≡ Ok source → ReadsItem item result))
+
+-- of a file, and of what is neither a file nor a folder
 abbrev pub ReadsFileItem : {A : Type 0} → Item → Result (Option (Vec ℕ A)) TreeFault → Type 0
 ReadsFileItem item result = is_file item ≡ true → ReadsItem item result
+
+abbrev pub ReadsOtherItem : {A : Type 0} → Item → Result (Option (Vec ℕ A)) TreeFault → Type 0
+ReadsOtherItem item result = item ≡ other → ReadsItem item result
 
 -- ---- folders, by the text before the slash in the paths of their entries, which is empty for `/`
 
@@ -63,27 +73,18 @@ folder_path stem = if bytes_eq stem [] then slash ∷ [] else stem
 abbrev pub entry_path : List ℕ → List ℕ → List ℕ
 entry_path stem name = stem ++ slash ∷ name
 
--- the rules of the file with this name, if it is among the names of the folder
-abbrev pub rules_among : TreeItems → List ℕ → List (List ℕ) → List ℕ → List Rule
-rules_among items stem names name = if is_among names name then rules_of_item (items (entry_path stem name)) else []
+-- the bytes of the file with this name, if it is among the names of the folder
+abbrev pub bytes_among : TreeItems → List ℕ → List (List ℕ) → List ℕ → List ℕ
+bytes_among items stem names name = if is_among names name then bytes_of_item (items (entry_path stem name)) else []
 
--- the rules that a repository has for itself, if one begins in the folder
-abbrev pub exclude_read : TreeItems → List ℕ → List (List ℕ) → Option (List Rule)
-exclude_read items stem names =
-    if is_among names (codes ".git") then Some (rules_of_item (items (exclude_path items stem))) else None
+-- a folder with these names, in which the repository with these folders begins, within what is left of the limit
+abbrev pub rule_files_read : ℕ → TreeItems → List ℕ → List (List ℕ) → Option (List ℕ × List ℕ) → FolderRules
+rule_files_read room items stem names folders = folder_within room (bytes_among items stem names (codes ".ignore"))
+    (bytes_among items stem names (codes ".gitignore")) (option_map (exclude_bytes items) folders)
 
--- the rule files of a folder that lists these names
-abbrev pub rule_files_read : TreeItems → List ℕ → List (List ℕ) → FolderRules
-rule_files_read items stem names = record {
-  ignore = rules_among items stem names (codes ".ignore");
-  gitignore = rules_among items stem names (codes ".gitignore");
-  exclude = exclude_read items stem names;
-}
-
--- a folder that lists these names; if ignored files are taken, no rule file is read
-abbrev pub folder_read : Bool → TreeItems → List ℕ → List (List ℕ) → FolderRules
-folder_read takes_ignored items stem names =
-    if takes_ignored then without_rules (is_among names (codes ".git")) else rule_files_read items stem names
+abbrev pub folder_read : Option ℕ → TreeItems → List ℕ → List (List ℕ) → FolderRules
+folder_read None items stem names = without_rules (is_some (root_at items stem names))
+folder_read (Some room) items stem names = rule_files_read room items stem names (root_at items stem names)
 
 -- ---- entries
 

@@ -1,6 +1,6 @@
 -- Globs, as in gitignore(5): a glob is a list of elements, and matches the elements of a path. docs/PROMISES.md, "Rules".
-use Rattle.std.specs.Prelude.{ℕ, Bool, true, false, not, ◌&&◌, ◌||◌, nat_eq, nat_le, List, [], ◌∷◌}
-use Rattle.std.specs.List.{list_any}
+use Rattle.std.specs.Prelude.{ℕ, Bool, true, false, not, ◌&&◌, ◌||◌, nat_eq, nat_le, List, [], ◌∷◌, length}
+use Rattle.std.specs.List.{list_any, list_all}
 
 -- ---- one element of a path
 
@@ -49,3 +49,21 @@ matches_path (folders ∷ glob) [] = matches_path glob []
 matches_path (folders ∷ glob) (name ∷ path) = matches_path glob (name ∷ path) || matches_path (folders ∷ glob) path
 matches_path (one tokens ∷ glob) [] = false
 matches_path (one tokens ∷ glob) (name ∷ path) = matches_name tokens name && matches_path glob path
+
+-- ---- globs that can match
+
+-- a class without a byte, which matches nothing
+abbrev pub is_nothing : GlobToken → Bool
+is_nothing (class negated ranges) = not negated && nat_eq (length ranges) 0
+is_nothing _ = false
+
+-- No name is empty.
+abbrev pub can_match_name : List GlobToken → Bool
+can_match_name tokens = not (nat_eq (length tokens) 0) && not (list_any is_nothing tokens)
+
+abbrev pub can_match_element : Element → Bool
+can_match_element folders = true
+can_match_element (one tokens) = can_match_name tokens
+
+abbrev pub can_match : List Element → Bool
+can_match glob = list_all can_match_element glob

@@ -1,6 +1,6 @@
 -- What all rule files along a path say together: gitignore(5), "DESCRIPTION", and `.ignore` files, which come first.
 -- docs/PROMISES.md, "Rules".
-use Rattle.std.specs.Prelude.{ℕ, Bool, true, false, not, ◌&&◌, ◌||◌, List, [], ◌∷◌, drop, Option, Some, None, is_some, if◌then◌else◌, bytes_eq, codes}
+use Rattle.std.specs.Prelude.{ℕ, ◌+◌, ◌-◌, Bool, true, false, not, ◌&&◌, ◌||◌, List, [], ◌∷◌, drop, Option, Some, None, is_some, if◌then◌else◌, bytes_eq, codes}
 use Rattle.cs_listing.specs.declared.rules.Decision.{Decision}
 use Rattle.cs_listing.specs.declared.rules.Decision.TheVariants.{Ignore, TakeBack}
 use Rattle.cs_listing.specs.declared.layers.RuleFile.{RuleFile}
@@ -8,6 +8,7 @@ use Rattle.cs_listing.specs.declared.layers.RuleFile.TheVariants as file
 use Rattle.cs_listing.specs.Rules.{Rule, or_else, decide}
 use Rattle.cs_listing.specs.Choices.{Settings, glob_choice, type_choice, is_too_deep}
 use Rattle.cs_listing.specs.Classes.{begins_with}
+use Rattle.cs_listing.specs.RuleFileReads.{most_rule_bytes}
 
 -- a folder, by the rules that count below it
 pub record FolderRules : Type 0 where
@@ -16,13 +17,24 @@ pub record FolderRules : Type 0 where
   pub gitignore : List Rule
   -- if a repository begins here: the rules of its `info/exclude`
   pub exclude : Option (List Rule)
+  -- the bytes that these files have
+  pub bytes : ℕ
 
 -- a folder whose rule files count for nothing
 abbrev pub without_rules : Bool → FolderRules
-without_rules is_root = record { ignore = []; gitignore = []; exclude = if is_root then Some [] else None }
+without_rules is_root = record { ignore = []; gitignore = []; exclude = if is_root then Some [] else None; bytes = 0 }
 
 -- The folders along a path are given from the top down. The elements of the path are the names of those below the first one,
 -- and last the name that is asked about.
+
+-- the bytes of their rule files
+abbrev pub rule_bytes : List FolderRules → ℕ
+rule_bytes [] = 0
+rule_bytes (folder ∷ folders) = folder.bytes + rule_bytes folders
+
+-- the bytes that are left for the rule files of the next folder, if rule files count
+abbrev pub room_after : Bool → List FolderRules → Option ℕ
+room_after takes_ignored folders = if takes_ignored then None else Some (most_rule_bytes - rule_bytes folders)
 
 abbrev pub rules_at : RuleFile → FolderRules → List Rule
 rules_at file.Ignore folder = folder.ignore

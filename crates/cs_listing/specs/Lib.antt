@@ -12,15 +12,18 @@ pub mod Choices
 pub mod Types
 pub mod Layers
 pub mod LayersWork
+pub mod Lent
 pub mod PathNames
 pub mod GitFolders
 pub mod Listing
 pub mod Models
 pub mod FolderReads
 pub mod Entries
+pub mod Settings
 pub mod UserRules
 pub mod Unreadable
 pub mod Walk
+pub mod Listed
 pub mod ReportsAll
 pub mod Stamps
 pub mod WholeWalks
@@ -29,3 +32,4 @@ pub mod Matching
 pub mod Reading
 pub mod Marks
 pub mod SettingReads
+pub mod RuleTexts

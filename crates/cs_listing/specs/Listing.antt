@@ -1,49 +1,93 @@
 -- Which files of a tree a search of a folder lists: those that no rule file on the way leaves out. docs/PROMISES.md, "Rules".
-use Rattle.std.specs.Prelude.{ℕ, ◌≡◌, Bool, true, false, not, ◌&&◌, if◌then◌else◌, nat_le, List, [], ◌∷◌, ◌++◌, length, reverse, Option, Some, None, codes}
+use Rattle.std.specs.Prelude.{ℕ, ◌≡◌, ◌+◌, ◌-◌, Bool, true, false, not, ◌&&◌, if◌then◌else◌, nat_le, List, [], ◌∷◌, ◌++◌, length, reverse, Option, Some, None, option_map, is_some, unwrap_or, codes}
 use Rattle.std.specs.Path.{slash}
-use Rattle.cs_tree.specs.Snapshot.{Item}
+use Rattle.cs_tree.specs.Snapshot.{Item, folder}
+use Rattle.cs_tree.specs.Elements.{is_among}
 use Rattle.cs_tree.specs.Folders.{lists}
 use Rattle.cs_tree.specs.Clean.{path_of, with_slashes, longest_path}
 use Rattle.cs_tree.specs.Walks.{is_file}
 use Rattle.cs_listing.specs.Rules.{Rule}
 use Rattle.cs_listing.specs.RuleFiles.{rules_of}
-pub use Rattle.cs_listing.specs.GitFolders.{TreeItems, bytes_of_item, git_folder}
-use Rattle.cs_listing.specs.Layers.{FolderRules, without_rules, is_left_out}
+pub use Rattle.cs_listing.specs.GitFolders.{TreeItems, bytes_of_item}
+use Rattle.cs_listing.specs.GitFolders.{is_there, root_at}
+use Rattle.cs_listing.specs.Layers.{FolderRules, without_rules, room_after, is_left_out}
 pub use Rattle.cs_listing.specs.Choices.{Settings, after}
-
--- ---- the folders along a path. The elements of a folder are given last one first, as to `path_of`.
 
 -- the rules of an item
 abbrev pub rules_of_item : Item → List Rule
 rules_of_item item = rules_of (bytes_of_item item)
 
--- the rules of the file with this name, if the folder lists it
-abbrev pub rules_listed : TreeItems → List (List ℕ) → List ℕ → List Rule
-rules_listed items above name =
-    if lists (items (path_of above)) name then rules_of_item (items (path_of (name ∷ above))) else []
+-- ---- the rule files of a folder, which have to fit into what is left of the limit of all along a path
 
--- the path of the rules that a repository has for itself
-abbrev pub exclude_path : TreeItems → List ℕ → List ℕ
-exclude_path items stem = git_folder items stem ++ slash ∷ codes "info/exclude"
+-- the bytes of a file; one that does not fit counts as empty
+abbrev pub bytes_within : ℕ → List ℕ → List ℕ
+bytes_within room bytes = if nat_le (length bytes) room then bytes else []
 
--- the rule files of a folder of the tree; a folder that lists `.git` is the root of a repository
-abbrev pub rule_files_at : TreeItems → List (List ℕ) → FolderRules
-rule_files_at items above = record {
-  ignore = rules_listed items above (codes ".ignore");
-  gitignore = rules_listed items above (codes ".gitignore");
-  exclude = if lists (items (path_of above)) (codes ".git") then Some (rules_of_item (items (exclude_path items (with_slashes above)))) else None;
+-- what is left after a file
+abbrev pub left_after : ℕ → List ℕ → ℕ
+left_after room bytes = room - length (bytes_within room bytes)
+
+-- a folder by the bytes of its `.ignore`, of its `.gitignore`, and of `info/exclude` if a repository begins in it
+abbrev pub folder_with : List ℕ → List ℕ → Option (List ℕ) → FolderRules
+folder_with ignore gitignore exclude = record {
+  ignore = rules_of ignore;
+  gitignore = rules_of gitignore;
+  exclude = option_map rules_of exclude;
+  bytes = length ignore + (length gitignore + length (unwrap_or exclude []));
 }
 
--- a folder of the tree; if ignored files are taken, no rule file counts
-abbrev pub folder_at : Bool → TreeItems → List (List ℕ) → FolderRules
-folder_at takes_ignored items above =
-    if takes_ignored then without_rules (lists (items (path_of above)) (codes ".git")) else rule_files_at items above
+-- each of them takes from what is left for the next one
+abbrev pub folder_within : ℕ → List ℕ → List ℕ → Option (List ℕ) → FolderRules
+folder_within room ignore gitignore exclude = folder_with (bytes_within room ignore) (bytes_within (left_after room ignore) gitignore)
+    (option_map (bytes_within (left_after (left_after room ignore) gitignore)) exclude)
 
--- the folders from `/` down to this one
+-- ---- the folders along a path. The elements of a folder are given last one first, as to `path_of`.
+
+-- the name of a file that rules come from, if something is there
+abbrev pub name_there : TreeItems → List ℕ → List ℕ → List (List ℕ)
+name_there items stem name = if is_there items (stem ++ slash ∷ name) then name ∷ [] else []
+
+abbrev pub names_there : TreeItems → List ℕ → List (List ℕ)
+names_there items stem =
+    (name_there items stem (codes ".ignore") ++ name_there items stem (codes ".gitignore")) ++ name_there items stem (codes ".git")
+
+-- The names by which the rules of an item are looked up: those that a folder lists; where nothing can be listed, those of files
+-- that are there.
+abbrev pub rule_names : TreeItems → List ℕ → Item → List (List ℕ)
+rule_names items stem (folder names unnamed) = names
+rule_names items stem _ = names_there items stem
+
+abbrev pub rule_names_at : TreeItems → List (List ℕ) → List (List ℕ)
+rule_names_at items above = rule_names items (with_slashes above) (items (path_of above))
+
+-- the bytes of the file with this name, if it is looked up
+abbrev pub bytes_listed : TreeItems → List (List ℕ) → List ℕ → List ℕ
+bytes_listed items above name =
+    if is_among (rule_names_at items above) name then bytes_of_item (items (path_of (name ∷ above))) else []
+
+-- the path of the rules that a repository with these folders has for itself
+abbrev pub exclude_path : List ℕ × List ℕ → List ℕ
+exclude_path folders = folders.1 ++ slash ∷ codes "info/exclude"
+
+-- the bytes at this path
+abbrev pub exclude_bytes : TreeItems → List ℕ × List ℕ → List ℕ
+exclude_bytes items folders = bytes_of_item (items (exclude_path folders))
+
+-- the folders of the repository that begins in a folder of the tree
+abbrev pub root_of : TreeItems → List (List ℕ) → Option (List ℕ × List ℕ)
+root_of items above = root_at items (with_slashes above) (rule_names_at items above)
+
+-- a folder of the tree within what is left of the limit; without, no rule file counts
+abbrev pub folder_at : Option ℕ → TreeItems → List (List ℕ) → FolderRules
+folder_at None items above = without_rules (is_some (root_of items above))
+folder_at (Some room) items above = folder_within room (bytes_listed items above (codes ".ignore"))
+    (bytes_listed items above (codes ".gitignore")) (option_map (exclude_bytes items) (root_of items above))
+
+-- the folders from `/` down to this one; if ignored files are taken, no rule file counts
 abbrev pub folders_to : Bool → TreeItems → List (List ℕ) → List FolderRules
-folders_to takes_ignored items [] = folder_at takes_ignored items [] ∷ []
-folders_to takes_ignored items (name ∷ above) =
-    folders_to takes_ignored items above ++ folder_at takes_ignored items (name ∷ above) ∷ []
+folders_to takes_ignored items [] = folder_at (room_after takes_ignored []) items [] ∷ []
+folders_to takes_ignored items (name ∷ above) = folders_to takes_ignored items above
+    ++ folder_at (room_after takes_ignored (folders_to takes_ignored items above)) items (name ∷ above) ∷ []
 
 -- ---- what is listed
 

@@ -50,7 +50,7 @@ rules_if (Some rules) = Some (rules_in rules)
 
 abbrev pub folder_of : OwnFolder → FolderRules
 folder_of folder =
-    record { ignore = rules_in folder.ignore; gitignore = rules_in folder.gitignore; exclude = rules_if folder.exclude }
+    record { ignore = rules_in folder.ignore; gitignore = rules_in folder.gitignore; exclude = rules_if folder.exclude; bytes = folder.bytes }
 
 abbrev pub folders_of : List OwnFolder → List FolderRules
 folders_of all = map folder_of all

@@ -4,10 +4,10 @@ use Rattle.std.specs.BTreeSet.{BTreeSet, contains_text}
 use Rattle.std.specs.declared.alloc.Global.{Global}
 use Rattle.cs_tree.specs.Snapshot.{Snapshot}
 use Rattle.cs_tree.specs.Elements.{is_among}
-use Rattle.cs_listing.specs.Listing.{Settings, TreeItems}
+use Rattle.cs_listing.specs.Listing.{Settings, TreeItems, rule_names}
 use Rattle.cs_listing.specs.FolderReads.{InTree, folder_path, key_of, out_by}
 use Rattle.cs_listing.specs.Unreadable.{IsUnreadFrom, IsUnreadable, unread_rules, unseen_entries, is_unlisted, only_if}
-use Rattle.cs_listing.specs.Walk.{settings_in, above_in, frames_in, keys_of_all, with_key}
+use Rattle.cs_listing.specs.Walk.{settings_in, room_in, above_in, frames_in, keys_of_all, with_key}
 use Rattle.cs_listing.specs.declared.entries.FolderReader.{FolderReader}
 use Rattle.cs_listing.specs.declared.entries.FolderNames.{FolderNames}
 use Rattle.cs_listing.specs.declared.fault.Unread.{Unread}
@@ -68,10 +68,14 @@ abbrev pub StepReportsAll : TreeItems → Walk → Walk → Step → Type 0
 StepReportsAll items old new (step.Done given) = ReportsAll items old new given
 StepReportsAll items old new step.More = KeepsToReport items old new
 
+-- what of the rules of a folder cannot be read
+abbrev pub unread_rules_of : Option ℕ → TreeItems → List ℕ → List (List ℕ)
+unread_rules_of room items stem = unread_rules room items stem (rule_names items stem (items (folder_path stem)))
+
 -- A folder is entered: what of its rules cannot be read is noted, and whether it was listed whole is returned.
-abbrev pub EntersNoting : Option Snapshot → List ℕ → List (List ℕ) → FolderNames → Walk → Walk → Type 0
-EntersNoting snapshot stem names listed old new =
-    Notes snapshot old.reader new.reader (λ items. unread_rules (settings_in old).takes_ignored items stem names)
+abbrev pub EntersNoting : Option Snapshot → List ℕ → FolderNames → Walk → Walk → Type 0
+EntersNoting snapshot stem listed old new =
+    Notes snapshot old.reader new.reader (λ items. unread_rules_of (room_in old) items stem)
     × InTree snapshot (λ items. is_some listed.fault ≡ is_unlisted (items (folder_path stem)))
 
 -- A folder is opened: if it was not listed whole it is noted, and what of its entries cannot be read.

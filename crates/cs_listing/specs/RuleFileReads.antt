@@ -8,6 +8,10 @@ use Rattle.cs_tree.specs.declared.fault.IoFault.TheVariants.{Failed}
 abbrev pub longest_rule_file : ℕ
 longest_rule_file = 1048576
 
+-- the most bytes that all rule files along a path take
+abbrev pub most_rule_bytes : ℕ
+most_rule_bytes = 1048576
+
 -- all bytes of a source that ends, or none if they are more than the limit
 abbrev pub ReadsUpTo : {A : Type 0} → ℕ → Option SourceModel → Option (Vec ℕ A) → Type 0
 ReadsUpTo limit model None = IfSome model (λ source. limit < length source.bytes)

@@ -6,16 +6,10 @@ use Rattle.std.specs.Path.{slash}
 use Rattle.cs_listing.specs.declared.rules.Decision.{Decision}
 use Rattle.cs_listing.specs.declared.rules.Decision.TheVariants.{Ignore, TakeBack}
 use Rattle.cs_listing.specs.Rules.{Rule}
-use Rattle.cs_listing.specs.Classes.{begins_with}
+use Rattle.cs_listing.specs.Classes.{begins_with, ends_with_byte}
 use Rattle.cs_listing.specs.GlobText.{glob_in}
 
 -- ---- the text of a line
-
--- whether the last byte of a text is this one
-abbrev pub ends_with_byte : ℕ → List ℕ → Bool
-ends_with_byte b [] = false
-ends_with_byte b (last ∷ []) = nat_eq last b
-ends_with_byte b (first ∷ next ∷ text) = ends_with_byte b (next ∷ text)
 
 -- a text without its last byte, if that is this one
 abbrev pub without_last : ℕ → List ℕ → List ℕ

@@ -4,45 +4,29 @@ use Rattle.cs_tree.specs.Snapshot.{Item, folder, bad, missing}
 use Rattle.cs_tree.specs.Elements.{is_among}
 use Rattle.cs_tree.specs.Folders.{names_listed}
 use Rattle.cs_tree.specs.Clean.{path_of, with_slashes, longest_path}
-use Rattle.cs_listing.specs.GitFolders.{path_after, joined}
-use Rattle.cs_listing.specs.Listing.{Settings, TreeItems, bytes_of_item, exclude_path, leaves_out, is_taken, down}
-use Rattle.cs_listing.specs.FolderReads.{rules_fault, entry_path}
+use Rattle.cs_listing.specs.GitFolders.{git_folder, shared_folder, root_at}
+use Rattle.cs_listing.specs.Listing.{Settings, TreeItems, bytes_of_item, exclude_path, left_after, rule_names_at, folders_to, leaves_out, is_taken, down}
+use Rattle.cs_listing.specs.Layers.{FolderRules, room_after}
+use Rattle.cs_listing.specs.FolderReads.{rules_fault, entry_path, bytes_among}
 
 -- the path, if something holds
 abbrev pub only_if : Bool → List ℕ → List (List ℕ)
 only_if true path = path ∷ []
 only_if false path = []
 
--- ---- one folder, by the text before the slash in the paths of its entries, and the names that it lists
+-- ---- one path. A folder is given by the text before the slash in the paths of its entries, and by its names.
 
 -- the file at a path, if it cannot be read whole
 abbrev pub unread_file : TreeItems → List ℕ → List (List ℕ)
 unread_file items path = only_if (is_some (rules_fault (items path))) path
 
--- the same of the file with this name, if the folder lists it
-abbrev pub unread_among : TreeItems → List ℕ → List (List ℕ) → List ℕ → List (List ℕ)
-unread_among items stem names name = if is_among names name then unread_file items (entry_path stem name) else []
+-- the same, if it is not within what is left for it
+abbrev pub unread_within : ℕ → TreeItems → List ℕ → List (List ℕ)
+unread_within room items path = unread_file items path ++ only_if (nat_lt room (length (bytes_of_item (items path)))) path
 
--- the same of `commondir` in the folder that the file `.git` names
-abbrev pub unread_common : TreeItems → List ℕ → Option (List ℕ) → List (List ℕ)
-unread_common items stem None = []
-unread_common items stem (Some path) = unread_file items (entry_path (joined stem path) (codes "commondir"))
-
--- the same of the files by which a repository names its folder
-abbrev pub unread_git : TreeItems → List ℕ → List (List ℕ)
-unread_git items stem = unread_file items (entry_path stem (codes ".git"))
-    ++ unread_common items stem (path_after (codes "gitdir: ") (bytes_of_item (items (entry_path stem (codes ".git")))))
-
--- the same of these and `info/exclude`, if the folder is the root of a repository
-abbrev pub unread_exclude : TreeItems → List ℕ → List (List ℕ) → List (List ℕ)
-unread_exclude items stem names =
-    if is_among names (codes ".git") then unread_git items stem ++ unread_file items (exclude_path items stem) else []
-
--- the same of all files that its rules come from; none is read if ignored files are taken
-abbrev pub unread_rules : Bool → TreeItems → List ℕ → List (List ℕ) → List (List ℕ)
-unread_rules true items stem names = []
-unread_rules false items stem names = unread_among items stem names (codes ".ignore")
-    ++ (unread_among items stem names (codes ".gitignore") ++ unread_exclude items stem names)
+-- the same of the file with this name, if it is one of the names of the folder
+abbrev pub unread_among : ℕ → TreeItems → List ℕ → List (List ℕ) → List ℕ → List (List ℕ)
+unread_among room items stem names name = if is_among names name then unread_within room items (entry_path stem name) else []
 
 -- whether an item cannot be listed whole: it is no folder, or the name of an entry is not text
 abbrev pub is_unlisted : Item → Bool
@@ -59,6 +43,46 @@ is_refused _ = false
 abbrev pub unseen : TreeItems → List ℕ → List (List ℕ)
 unseen items path = only_if (nat_lt longest_path (length path) || is_refused (items path)) path
 
+-- ---- the files that the rules of a folder come from
+
+-- the files by which a repository names its folders, if they cannot be read whole
+abbrev pub unread_git : TreeItems → List ℕ → List (List ℕ)
+unread_git items stem = unread_file items (entry_path stem (codes ".git"))
+    ++ unread_file items (entry_path (git_folder items stem) (codes "commondir"))
+
+-- what says whether two folders are those of a repository, if a look-up of it fails
+abbrev pub unseen_parts : TreeItems → List ℕ → List ℕ → List (List ℕ)
+unseen_parts items own shared = unseen items (entry_path own (codes "HEAD"))
+    ++ (unseen items (entry_path shared (codes "objects")) ++ unseen items (entry_path shared (codes "refs")))
+
+abbrev pub unread_repository : TreeItems → List ℕ → List (List ℕ)
+unread_repository items stem =
+    unread_git items stem ++ unseen_parts items (git_folder items stem) (shared_folder items (git_folder items stem))
+
+-- the same of all that says whether the folder is the root of a repository
+abbrev pub unread_root : TreeItems → List ℕ → List (List ℕ) → List (List ℕ)
+unread_root items stem names = if is_among names (codes ".git") then unread_repository items stem else []
+
+-- `info/exclude` of a repository with these folders
+abbrev pub unread_exclude : ℕ → TreeItems → Option (List ℕ × List ℕ) → List (List ℕ)
+unread_exclude room items None = []
+unread_exclude room items (Some folders) = unread_within room items (exclude_path folders)
+
+-- the rule files of a folder, within what is left of the limit
+abbrev pub unread_files : ℕ → TreeItems → List ℕ → List (List ℕ) → Option (List ℕ × List ℕ) → List (List ℕ)
+unread_files room items stem names folders =
+    let rest = left_after room (bytes_among items stem names (codes ".ignore")) in
+    unread_among room items stem names (codes ".ignore") ++ (unread_among rest items stem names (codes ".gitignore")
+    ++ unread_exclude (left_after rest (bytes_among items stem names (codes ".gitignore"))) items folders)
+
+-- all that the rules of a folder come from; without what is left no rule file counts
+abbrev pub unread_rules : Option ℕ → TreeItems → List ℕ → List (List ℕ) → List (List ℕ)
+unread_rules None items stem names = unread_root items stem names
+unread_rules (Some room) items stem names =
+    unread_root items stem names ++ unread_files room items stem names (root_at items stem names)
+
+-- ---- the entries of a folder
+
 -- The same of an entry that is looked at: `left_out` does not say of its name that it is left out both as a file and as a folder.
 abbrev pub unseen_entry : (List ℕ → Bool → Bool) → TreeItems → List ℕ → List ℕ → List (List ℕ)
 unseen_entry left_out items stem name =
@@ -69,10 +93,15 @@ unseen_entries left_out items stem names = flat_map (unseen_entry left_out items
 
 -- ---- searches. The elements of a folder are given last one first.
 
--- the files that the rules of a folder come from, if they cannot be read whole
+-- the folders above one
+abbrev pub folders_above : Bool → TreeItems → List (List ℕ) → List FolderRules
+folders_above takes_ignored items [] = []
+folders_above takes_ignored items (name ∷ above) = folders_to takes_ignored items above
+
+-- what of the rules of a folder cannot be read
 abbrev pub unread_rules_at : Bool → TreeItems → List (List ℕ) → List (List ℕ)
-unread_rules_at takes_ignored items above =
-    unread_rules takes_ignored items (with_slashes above) (names_listed (items (path_of above)))
+unread_rules_at takes_ignored items above = unread_rules (room_after takes_ignored (folders_above takes_ignored items above)) items
+    (with_slashes above) (rule_names_at items above)
 
 -- the same of the folders from `/` down to this one
 abbrev pub unread_rules_to : Bool → TreeItems → List (List ℕ) → List (List ℕ)

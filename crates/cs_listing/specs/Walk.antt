@@ -11,8 +11,9 @@ use Rattle.cs_tree.specs.Snapshot.{Snapshot}
 use Rattle.cs_tree.specs.Folders.{names_listed}
 use Rattle.cs_tree.specs.Clean.{path_of, with_slashes, longest_path}
 use Rattle.cs_tree.specs.Walks.{is_file}
+use Rattle.cs_listing.specs.Layers.{room_after}
 use Rattle.cs_listing.specs.Models.{settings_of, folders_in, names_in}
-use Rattle.cs_listing.specs.Listing.{Settings, TreeItems, folders_to, is_listed, has_more, after, is_found}
+use Rattle.cs_listing.specs.Listing.{Settings, TreeItems, rule_names, folders_to, is_listed, has_more, after, is_found}
 use Rattle.cs_listing.specs.FolderReads.{InTree, folder_path, folder_read, key_of, keys_taken}
 use Rattle.cs_listing.specs.Entries.{entry_keys, AreKeysOf}
 use Rattle.cs_listing.specs.declared.layers.Layers.{Layers}
@@ -129,11 +130,16 @@ abbrev pub StepGives : TreeItems → Walk → Walk → Step → Type 0
 StepGives items old new (step.Done given) = Gives items old new given
 StepGives items old new step.More = IsWalkIn items new × ((path : List (List ℕ)) → is_left new items path ≡ is_left old items path)
 
+-- the bytes that are left for the rule files of a folder of the deepest one
+abbrev pub room_in : Walk → Option ℕ
+room_in walk = room_after (settings_in walk).takes_ignored (folders_in walk.layers)
+
 -- A folder is entered: its rule files are added.
 abbrev pub Enters : TreeItems → List ℕ → List (List ℕ) → Walk → Walk → Type 0
 Enters items stem names old new =
     (names ≡ names_listed (items (folder_path stem))) × (are_elements names ≡ true)
-    × (folders_in new.layers ≡ folders_in old.layers ++ folder_read (settings_in old).takes_ignored items stem names ∷ [])
+    × (folders_in new.layers ≡ folders_in old.layers
+    ++ folder_read (room_in old) items stem (rule_names items stem (items (folder_path stem))) ∷ [])
 
 -- A folder is opened: the entries that are taken are the next ones to come.
 abbrev pub Opens : Option Snapshot → String Global → List (List ℕ) → Walk → Walk → Type 0

@@ -1,11 +1,10 @@
 -- What a walk of a project gives from its beginning to its end. docs/PROMISES.md, "Rules".
-use Rattle.std.specs.Prelude.{ℕ, ◌≡◌, ◌≢◌, ◌↔◌, true, false, List, [], ◌∷◌, map, Some, None, string_bytes}
-use Rattle.std.specs.List.{AllByRecursion}
+use Rattle.std.specs.Prelude.{ℕ, ◌≡◌, ◌↔◌, true, List, [], ◌∷◌, Some, None, string_bytes}
 use Rattle.cs_tree.specs.Elements.{is_among, are_distinct}
-use Rattle.cs_tree.specs.NamesAscending.{are_ascending}
-use Rattle.cs_listing.specs.Listing.{Settings, TreeItems, is_found}
+use Rattle.cs_listing.specs.Listing.{TreeItems}
+pub use Rattle.cs_listing.specs.Listed.{AreListed}
 use Rattle.cs_listing.specs.Unreadable.{IsUnreadable}
-use Rattle.cs_listing.specs.Walk.{settings_in, path_text, Begins, Gives, HasReportedNone, ReportsOnce}
+use Rattle.cs_listing.specs.Walk.{settings_in, Begins, Gives, HasReportedNone, ReportsOnce}
 use Rattle.cs_listing.specs.ReportsAll.{BeginsToReport, ReportsAll}
 use Rattle.cs_listing.specs.declared.walk.Found.{Found}
 use Rattle.cs_listing.specs.declared.walk.Found.TheVariants as found
@@ -28,13 +27,6 @@ abbrev pub paths_reported : List Found → List (List ℕ)
 paths_reported [] = []
 paths_reported (found.File file ∷ others) = paths_reported others
 paths_reported (found.Unread unread ∷ others) = string_bytes unread.path ∷ paths_reported others
-
--- These are the paths of the files that a search of the folder `start` lists, in byte order.
-abbrev pub AreListed : Settings → TreeItems → List (List ℕ) → List (List ℕ) → Type 0
-AreListed settings items start texts =
-    (paths : List (List (List ℕ))) × (texts ≡ map path_text paths) × (are_ascending (map path_text paths) ≡ true)
-    × AllByRecursion (λ path. is_found settings items start path ≡ true) paths
-    × ((other : List (List ℕ)) → AllByRecursion (λ path. path ≢ other) paths → is_found settings items start other ≡ false)
 
 -- A walk that has begun at a folder gives the files that a search of it lists, each once, and no other ones.
 abbrev pub WalksList : Type 0

@@ -1,10 +1,13 @@
 // Braces in the globs of a user.
 ghost use Rattle.std.specs.Prelude.{◌≡◌, ◌++◌, [], IfOk, OnOk, option_map};
-ghost use Rattle.cs_listing.specs.Braces.{alternatives as alternatives', at_beginning, opened, closed, separated, with_text, with_piece, texts_at_end};
+ghost use Rattle.std.specs.List.{list_all};
+ghost use Rattle.cs_listing.specs.Braces.{alternatives as alternatives', is_glob as is_glob', at_beginning, opened, closed, separated, with_text, with_piece, texts_at_end};
 ghost use Rattle.cs_listing.specs.Models.{texts_of, texts_in, around_in, expansion_of};
 ghost use Rattle.cs_listing.specs.Reading.{ReadsPiece};
 
-use crate::glob_parsing::first_token;
+use crate::glob::can_match;
+use crate::glob_parsing::{first_token, parse_glob};
+use crate::rule_lines::without_last;
 use std::alloc::{AllocError, Global};
 
 /// The most texts that a glob stands for.
@@ -149,4 +152,24 @@ fn copies(alloc: Global, texts: &[Vec<u8>]) -> Result<Vec<Vec<u8>>, AllocError>
         copied.push(copy)?;
     }
     Ok(copied)
+}
+
+/// Whether each of the texts is that of a glob.
+pub(crate) fn are_globs(alloc: Global, texts: &[Vec<u8>]) -> Result<bool, AllocError>
+    ensures { IfOk result (λ are. are ≡ list_all is_glob' (texts_of texts.now)) }
+{
+    for text in texts {
+        if !is_glob(alloc, text)? {
+            return Ok(false);
+        }
+    }
+    Ok(true)
+}
+
+/// Whether a text is that of a glob that can match something.
+fn is_glob(alloc: Global, text: &[u8]) -> Result<bool, AllocError>
+    ensures { IfOk result (λ is. is ≡ is_glob' text.now) }
+{
+    let glob = parse_glob(alloc, without_last(b'/', text))?;
+    Ok(can_match(&glob))
 }

@@ -13,7 +13,7 @@ use cs_prefilter::Steps;
 use std::alloc::{AllocError, Global};
 
 /// What the user chooses. All walks of a search have the same choices.
-#[derive(Debug, Drop)]
+#[derive(Drop)]
 pub struct Choices {
     alloc: Global,
     /// The rules of the user, for all repositories.
@@ -71,7 +71,7 @@ impl Choices {
 
     /// Adds a glob, which takes files, or leaves them out if it begins with `!`. The last glob that
     /// applies counts. With braces, as in `*.{c,h}`, it stands for several. False if the braces do
-    /// not match, or if it stands for more than 1,000.
+    /// not match, if it stands for more than 1,000, or if one of them can match nothing.
     pub fn add_glob(&mut self, glob: &str) -> Result<bool, AllocError>
         ensures { IfOk result
             (λ is_glob. AddsGlob glob.now is_glob (chosen_in self.old) (chosen_in self.new)) }

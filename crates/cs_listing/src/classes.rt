@@ -1,8 +1,10 @@
 // Classes in the text of a glob, as in `[a-z]` and `[[:alpha:]]`.
-ghost use Rattle.std.specs.Prelude.{◌≡◌, IfOk};
-ghost use Rattle.cs_listing.specs.Classes.{begins_with as begins_with', quoted as quoted', class_name as class_name', ranges_named as ranges_named', letters as letters', is_range as is_range'};
-ghost use Rattle.cs_listing.specs.Reading.{lent, ReadsRange, AddsItem, ReadsClass};
+ghost use Rattle.std.specs.Prelude.{◌≡◌, ◌≤◌, length, drop, IfOk};
+ghost use Rattle.cs_listing.specs.Classes.{begins_with as begins_with', quoted as quoted', class_name as class_name', ranges_named as ranges_named', is_range as is_range'};
+ghost use Rattle.cs_listing.specs.Reading.{lent, ReadsRange, ReadsName, HasNoName, AddsItem, ReadsClass};
 
+use crate::class_names::{CLASSES, ranges_among};
+use crate::rule_lines::before;
 use std::alloc::{AllocError, Global};
 
 /// Whether a text begins with the byte.
@@ -37,8 +39,10 @@ pub(crate) fn class_items(
 {
     let mut ranges = Vec::new(alloc);
     let mut at = 0;
+    let mut plain = 0;
     'items: loop {
-        let Some(len) = add_item(&text[at..], &mut ranges)? else {
+        let name = name_at(text, at, &mut plain);
+        let Some(len) = add_item(&text[at..], name, &mut ranges)? else {
             return Ok(None);
         };
         at += len;
@@ -48,12 +52,37 @@ pub(crate) fn class_items(
     }
 }
 
-/// Adds the ranges of the item that a text begins with, and returns its length. None if there is
-/// none.
-fn add_item(text: &[u8], ranges: &mut Vec<(u8, u8)>) -> Result<Option<usize>, AllocError>
+/// The name that begins at an offset. None begins before the offset `plain`, which is moved on, so
+/// that a byte is not looked at again and again for its name.
+fn name_at<'t>(text: &'t [u8], at: usize, plain: &mut usize) -> Option<&'t [u8]>
+    requires within { at ≤ length text.now }
+    requires before { HasNoName text.now at plain.old }
+    ensures name { class_name' (drop at text.now) ≡ lent result }
+    ensures before { HasNoName text.now at plain.new }
+{
+    if at < *plain {
+        return None;
+    }
+    match class_name(&text[at..]) {
+        Ok(name) => Some(name),
+        Err(len) => {
+            *plain = at.saturating_add(len);
+            None
+        }
+    }
+}
+
+/// Adds the ranges of the item that a text begins with, which may be a name, and returns its
+/// length. None if there is none.
+fn add_item(
+    text: &[u8],
+    name: Option<&[u8]>,
+    ranges: &mut Vec<(u8, u8)>,
+) -> Result<Option<usize>, AllocError>
+    requires { class_name' text.now ≡ lent name }
     ensures { IfOk result (λ read. AddsItem text.now ranges.old.items ranges.new.items read) }
 {
-    if let Some(name) = class_name(text) {
+    if let Some(name) = name {
         let Some(named) = ranges_named(name) else {
             return Ok(None);
         };
@@ -89,62 +118,23 @@ fn is_range(text: &[u8]) -> bool
     }
 }
 
-/// The name of a class, as in `[:alpha:]`.
-fn class_name(text: &[u8]) -> Option<&[u8]>
-    ensures { class_name' text.now ≡ lent result }
+/// The name of a class, as in `[:alpha:]`. Otherwise a number of bytes in which no name begins.
+fn class_name(text: &[u8]) -> Result<&[u8], usize>
+    ensures { ReadsName text.now result }
 {
-    let rest = text.strip_prefix(b"[:")?;
-    let (name, after) = rest.split_at(letters(rest));
-    if after.starts_with(b":]") {
-        Some(name)
-    } else {
-        None
+    let Some(rest) = text.strip_prefix(b"[:") else {
+        return Err(1);
+    };
+    let inner = before(b']', rest);
+    match inner.split_last() {
+        Some((b':', name)) if inner.len() < rest.len() => Ok(name),
+        _ => Err(inner.len() + 1),
     }
-}
-
-/// How many small letters a text begins with.
-fn letters(text: &[u8]) -> usize
-    ensures { result ≡ letters' text.now }
-{
-    let mut count = 0;
-    for byte in text {
-        if !(b'a' <= *byte && *byte <= b'z') {
-            return count;
-        }
-        count += 1;
-    }
-    count
 }
 
 /// The ASCII characters of a named class.
 fn ranges_named(name: &[u8]) -> Option<&'static [(u8, u8)]>
     ensures { ranges_named' name.now ≡ lent result }
 {
-    if name == b"alnum".as_slice() {
-        Some(&[(b'0', b'9'), (b'A', b'Z'), (b'a', b'z')])
-    } else if name == b"alpha".as_slice() {
-        Some(&[(b'A', b'Z'), (b'a', b'z')])
-    } else if name == b"blank".as_slice() {
-        Some(&[(b' ', b' '), (b'\t', b'\t')])
-    } else if name == b"cntrl".as_slice() {
-        Some(&[(0, 31), (127, 127)])
-    } else if name == b"digit".as_slice() {
-        Some(&[(b'0', b'9')])
-    } else if name == b"graph".as_slice() {
-        Some(&[(33, 126)])
-    } else if name == b"lower".as_slice() {
-        Some(&[(b'a', b'z')])
-    } else if name == b"print".as_slice() {
-        Some(&[(32, 126)])
-    } else if name == b"punct".as_slice() {
-        Some(&[(33, 47), (58, 64), (91, 96), (123, 126)])
-    } else if name == b"space".as_slice() {
-        Some(&[(9, 13), (b' ', b' ')])
-    } else if name == b"upper".as_slice() {
-        Some(&[(b'A', b'Z')])
-    } else if name == b"xdigit".as_slice() {
-        Some(&[(b'0', b'9'), (b'A', b'F'), (b'a', b'f')])
-    } else {
-        None
-    }
+    ranges_among(&CLASSES, name)
 }

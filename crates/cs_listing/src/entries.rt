@@ -1,5 +1,5 @@
 // Reading a folder: what it lists, its rule files, and which of its entries are taken.
-ghost use Rattle.std.specs.Prelude.{◌≡◌, ◌<◌, ◌+◌, ◌∷◌, ◌++◌, [], true, false, reverse, map, length, option_map, is_some, if◌then◌else◌, ◌&&◌, codes, string_bytes, IfOk, IfSome, OnOk};
+ghost use Rattle.std.specs.Prelude.{◌≡◌, ◌≤◌, ◌<◌, ◌+◌, nat_lt, unwrap_or, ◌∷◌, ◌++◌, [], true, false, reverse, map, length, option_map, is_some, if◌then◌else◌, ◌&&◌, codes, string_bytes, IfOk, IfSome, OnOk};
 ghost use Rattle.std.specs.Option.{option_to_list};
 ghost use Rattle.std.specs.List.{All, Contains};
 ghost use Rattle.cs_tree.specs.Elements.{are_elements};
@@ -7,27 +7,28 @@ ghost use Rattle.cs_tree.specs.Folders.{names_listed};
 ghost use Rattle.cs_tree.specs.NamesAscending.{are_ascending};
 ghost use Rattle.cs_tree.specs.Looks.{kind_seen};
 ghost use Rattle.cs_tree.specs.Elements.{is_among};
-ghost use Rattle.cs_listing.specs.Models.{names, names_in, rules_in, rules_if, folder_of, folders_in, IsInDeepest};
+ghost use Rattle.cs_listing.specs.Models.{names, names_in, folder_of, folders_in, IsInDeepest};
 ghost use Rattle.cs_listing.specs.Layers.{is_left_out, last_name};
-ghost use Rattle.cs_listing.specs.GitFolders.{bytes_of_item, git_folder as git_folder', shared_folder as shared_folder'};
-ghost use Rattle.cs_listing.specs.Listing.{TreeItems, rules_of_item};
-ghost use Rattle.cs_listing.specs.FolderReads.{InTree, folder_path as folder_path', entry_path, rules_among, exclude_read, rule_files_read, folder_read, out_by, kind_at, taken_as, key_of, key_taken, keys_taken};
-ghost use Rattle.cs_listing.specs.Unreadable.{is_unlisted, unread_file, unread_among, unread_git, unread_exclude, unread_rules, unread_common, unseen, unseen_entry, unseen_entries};
+ghost use Rattle.cs_listing.specs.GitFolders.{bytes_of_item, is_there, root_at};
+ghost use Rattle.cs_listing.specs.Listing.{exclude_bytes, bytes_within, name_there, names_there, rule_names};
+ghost use Rattle.cs_listing.specs.FolderReads.{InTree, folder_path as folder_path', entry_path, bytes_among as bytes_among', rule_files_read, folder_read, out_by, kind_at, taken_as, key_of, key_taken, keys_taken};
+ghost use Rattle.cs_listing.specs.Unreadable.{is_unlisted, unread_file, unread_within, unread_among, unread_exclude, unread_root, unread_files, unread_rules, only_if, unseen, unseen_entry, unseen_entries};
 ghost use Rattle.cs_listing.specs.ReportsAll.{paths_noted, Notes, unlisted_path};
+ghost use Rattle.cs_listing.specs.RuleTexts.{bytes_of_texts, folder_of_texts};
+ghost use Rattle.cs_listing.specs.SettingReads.{bytes_if};
 ghost use Rattle.cs_listing.specs.Stamps.{InStamps, IsFileKey, IsStamped};
-ghost use Rattle.cs_listing.specs.Entries.{taken_folder, entry_key, entry_keys, left_out_by, AreKeysOf, IsNameOf};
+ghost use Rattle.cs_listing.specs.Entries.{names_for_rules, repository_folders, taken_folder, entry_key, entry_keys, left_out_by, AreKeysOf, IsNameOf};
 
 use crate::fault::{ListFault, Unread};
-use crate::git_folders::{joined, path_after};
-use crate::layers::{FolderRules, Layers};
-use crate::rules::Rules;
+use crate::git_folders::GitFolders;
+use crate::layers::{FolderRules, Layers, RuleTexts};
 use crate::whole_files::WholeFile;
 use cs_prefilter::Steps;
-use cs_tree::{Kind, LONGEST_PATH, Look, Seen, Stamp, Tree, TreeFault};
+use cs_tree::{Kind, LONGEST_PATH, Look, Seen, Stamp, TreeFault};
 use std::alloc::{AllocError, Global};
 
 /// An entry that is still to come.
-#[derive(Debug, Drop)]
+#[derive(Drop)]
 pub(crate) struct Entry {
     /// The name, and a slash after that of a folder, so that the order of entries is that of the
     /// paths below them.
@@ -65,14 +66,28 @@ pub(crate) struct Place<'a> {
 #[derive(Drop)]
 pub(crate) struct FolderNames {
     pub(crate) names: Vec<String>,
+    /// If the folder cannot be listed, the names of its files for rules that are there.
+    there: Option<Vec<String>>,
     /// Why the folder, or the name of one of its entries, cannot be read.
     pub(crate) fault: Option<ListFault>,
 }
 
+impl FolderNames {
+    /// Whether the folder has a file for rules with this name.
+    fn may_have(&self, name: &str) -> bool
+        ensures { result ≡ is_among (names_for_rules self.now) name.now }
+    {
+        match &self.there {
+            Some(names) => is_listed(names, name),
+            None => is_listed(&self.names, name),
+        }
+    }
+}
+
 /// Reads folders and their rule files, and notes what cannot be read.
-#[derive(Debug, Drop)]
+#[derive(Drop)]
 pub(crate) struct FolderReader {
-    alloc: Global,
+    pub(crate) alloc: Global,
     pub(crate) unread: Vec<Unread>,
 }
 
@@ -102,11 +117,37 @@ fn folder_path(stem: &str) -> &str
     if stem.is_empty() { "/" } else { stem }
 }
 
-/// Whether a folder lists the name.
+/// The length of a rule file that may not be there.
+fn length_of(bytes: &Option<Vec<u8>>) -> usize
+    ensures { result ≡ length (unwrap_or (bytes_if bytes.now) []) }
+{
+    match bytes {
+        Some(bytes) => bytes.len(),
+        None => 0,
+    }
+}
+
+/// Whether the name is among these.
 fn is_listed(names: &[String], name: &str) -> bool
     ensures { result ≡ is_among (map string_bytes names.now) name.now }
 {
     names.iter().any(|one| one.as_str() == name)
+}
+
+/// Whether something is at a path. What cannot be looked up is not there.
+fn is_seen<T: Look>(tree: &mut T, path: &str) -> Result<bool, AllocError>
+    ensures seen { IfOk result (λ seen. InTree (T.snapshot tree.old)
+        (λ items. seen ≡ is_there items path.now)) }
+    ensures keeps { T.snapshot tree.new ≡ T.snapshot tree.old }
+{
+    if LONGEST_PATH < path.len() {
+        return Ok(false);
+    }
+    match tree.look(path) {
+        Ok(_) => Ok(true),
+        Err(TreeFault::Memory) => Err(AllocError),
+        Err(_) => Ok(false),
+    }
 }
 
 /// Adds the entry, if there is one.
@@ -163,10 +204,12 @@ impl FolderReader {
     }
 
     /// What a folder lists: no names if it cannot be listed.
-    pub(crate) fn list<T: Tree>(&self, tree: &mut T, stem: &str) -> Result<FolderNames, AllocError>
+    pub(crate) fn list<T: Look>(&self, tree: &mut T, stem: &str) -> Result<FolderNames, AllocError>
         ensures names { IfOk result (λ listed. are_elements (map string_bytes listed.names.items) ≡ true) }
         ensures listed { IfOk result (λ listed. InTree (T.snapshot tree.old)
             (λ items. map string_bytes listed.names.items ≡ names_listed (items (folder_path' stem.now)))) }
+        ensures rules { IfOk result (λ listed. InTree (T.snapshot tree.old)
+            (λ items. names_for_rules listed ≡ rule_names items stem.now (items (folder_path' stem.now)))) }
         ensures fault { IfOk result (λ listed. InTree (T.snapshot tree.old)
             (λ items. is_some listed.fault ≡ is_unlisted (items (folder_path' stem.now)))) }
         ensures keeps { T.snapshot tree.new ≡ T.snapshot tree.old }
@@ -174,6 +217,7 @@ impl FolderReader {
         match tree.entries(self.alloc, folder_path(stem)) {
             Ok(listing) => Ok(FolderNames {
                 names: listing.names,
+                there: None,
                 fault: if listing.unnamed {
                     Some(ListFault::Unnamed)
                 } else {
@@ -181,11 +225,51 @@ impl FolderReader {
                 },
             }),
             Err(TreeFault::Memory) => Err(AllocError),
-            Err(fault) => Ok(FolderNames {
-                names: Vec::new(self.alloc),
-                fault: Some(ListFault::Tree(fault)),
-            }),
+            Err(fault) => self.unlisted(tree, stem, fault),
         }
+    }
+
+    /// A folder that cannot be listed.
+    fn unlisted<T: Look>(
+        &self,
+        tree: &mut T,
+        stem: &str,
+        fault: TreeFault,
+    ) -> Result<FolderNames, AllocError>
+        ensures names { IfOk result (λ listed. listed.names.items ≡ []) }
+        ensures rules { IfOk result (λ listed. InTree (T.snapshot tree.old)
+            (λ items. names_for_rules listed ≡ names_there items stem.now)) }
+        ensures fault { IfOk result (λ listed. listed.fault ≡ Some (ListFault.Tree fault)) }
+        ensures keeps { T.snapshot tree.new ≡ T.snapshot tree.old }
+    {
+        let mut there = Vec::new(self.alloc);
+        self.add_if_there(tree, stem, ".ignore", &mut there)?;
+        self.add_if_there(tree, stem, ".gitignore", &mut there)?;
+        self.add_if_there(tree, stem, ".git", &mut there)?;
+        Ok(FolderNames {
+            names: Vec::new(self.alloc),
+            there: Some(there),
+            fault: Some(ListFault::Tree(fault)),
+        })
+    }
+
+    /// Adds the name of a file, if something is there.
+    fn add_if_there<T: Look>(
+        &self,
+        tree: &mut T,
+        stem: &str,
+        name: &str,
+        there: &mut Vec<String>,
+    ) -> Result<(), AllocError>
+        ensures added { OnOk result (InTree (T.snapshot tree.old) (λ items. map string_bytes there.new.items
+            ≡ map string_bytes there.old.items ++ name_there items stem.now name.now)) }
+        ensures keeps { T.snapshot tree.new ≡ T.snapshot tree.old }
+    {
+        let path = child_path(self.alloc, stem, name)?;
+        if is_seen(tree, path.as_str())? {
+            there.push(String::from_str(self.alloc, name)?)?;
+        }
+        Ok(())
     }
 
     /// Notes what of a folder could not be listed.
@@ -199,147 +283,163 @@ impl FolderReader {
         Ok(())
     }
 
-    /// The folder of this name that lists these. If ignored files are taken, no rule file is read.
+    /// The folder of this name, within what is left of the limit of rule files. Without, none is
+    /// read.
     pub(crate) fn folder<T: Look>(
         &mut self,
         tree: &mut T,
         stem: &str,
-        names: &[String],
+        listed: &FolderNames,
         name: String,
-        takes_ignored: bool,
+        room: Option<usize>,
     ) -> Result<FolderRules, AllocError>
         ensures folder { IfOk result (λ folder. InTree (T.snapshot tree.old) (λ items.
-            folder_of folder ≡ folder_read takes_ignored items stem.now (map string_bytes names.now))) }
+            folder_of folder ≡ folder_read room items stem.now (names_for_rules listed.now))) }
         ensures name { IfOk result (λ folder. folder.name ≡ name) }
         ensures unread { OnOk result (Notes (T.snapshot tree.old) self.old self.new
-            (λ items. unread_rules takes_ignored items stem.now (map string_bytes names.now))) }
+            (λ items. unread_rules room items stem.now (names_for_rules listed.now))) }
         ensures keeps { T.snapshot tree.new ≡ T.snapshot tree.old }
     {
-        if takes_ignored {
-            let is_root = is_listed(names, ".git");
+        let repository = self.root(tree, stem, listed)?;
+        let Some(room) = room else {
+            let is_root = repository.is_some();
             return Ok(FolderRules::without_rules(self.alloc, name, is_root));
-        }
-        self.rules(tree, stem, names, name)
+        };
+        let texts = self.texts(tree, stem, listed, repository, room)?;
+        FolderRules::parse(self.alloc, name, &texts)
     }
 
-    /// The same with its rule files.
-    fn rules<T: Look>(
+    /// The folders of the repository that begins in a folder, if one does.
+    fn root<T: Look>(
         &mut self,
         tree: &mut T,
         stem: &str,
-        names: &[String],
-        name: String,
-    ) -> Result<FolderRules, AllocError>
-        ensures rules { IfOk result (λ rules. InTree (T.snapshot tree.old)
-            (λ items. folder_of rules ≡ rule_files_read items stem.now (map string_bytes names.now))) }
-        ensures name { IfOk result (λ rules. rules.name ≡ name) }
+        listed: &FolderNames,
+    ) -> Result<Option<GitFolders>, AllocError>
+        ensures root { IfOk result (λ folders. InTree (T.snapshot tree.old) (λ items.
+            option_map repository_folders folders ≡ root_at items stem.now (names_for_rules listed.now))) }
         ensures unread { OnOk result (Notes (T.snapshot tree.old) self.old self.new
-            (λ items. unread_rules false items stem.now (map string_bytes names.now))) }
+            (λ items. unread_root items stem.now (names_for_rules listed.now))) }
         ensures keeps { T.snapshot tree.new ≡ T.snapshot tree.old }
     {
-        let ignore = self.rules_among(tree, stem, names, ".ignore")?;
-        let gitignore = self.rules_among(tree, stem, names, ".gitignore")?;
-        let exclude = self.exclude(tree, stem, names)?;
-        Ok(FolderRules {
-            name,
+        if !listed.may_have(".git") {
+            return Ok(None);
+        }
+        self.repository(tree, stem)
+    }
+
+    /// The rule files of a folder in which this repository begins, if one does, within what is left
+    /// of the limit.
+    fn texts<T: Look>(
+        &mut self,
+        tree: &mut T,
+        stem: &str,
+        listed: &FolderNames,
+        repository: Option<GitFolders>,
+        room: usize,
+    ) -> Result<RuleTexts, AllocError>
+        ensures texts { IfOk result (λ texts. InTree (T.snapshot tree.old) (λ items. folder_of_texts texts
+            ≡ rule_files_read room items stem.now (names_for_rules listed.now)
+            (option_map repository_folders repository))) }
+        ensures bytes { IfOk result (λ texts. texts.bytes ≡ bytes_of_texts texts) }
+        ensures unread { OnOk result (Notes (T.snapshot tree.old) self.old self.new
+            (λ items. unread_files room items stem.now (names_for_rules listed.now)
+            (option_map repository_folders repository))) }
+        ensures keeps { T.snapshot tree.new ≡ T.snapshot tree.old }
+    {
+        let ignore = self.bytes_among(tree, stem, listed, ".ignore", room)?;
+        let rest = room - ignore.len();
+        let gitignore = self.bytes_among(tree, stem, listed, ".gitignore", rest)?;
+        let last = rest - gitignore.len();
+        let exclude = self.exclude(tree, repository, last)?;
+        let bytes = room - last + length_of(&exclude);
+        Ok(RuleTexts {
             ignore,
             gitignore,
             exclude,
+            bytes,
         })
     }
 
-    /// The rules of the file with this name, if it is among the names of the folder.
-    fn rules_among<T: Look>(
+    /// The bytes of the file with this name, if it is looked up.
+    fn bytes_among<T: Look>(
         &mut self,
         tree: &mut T,
         stem: &str,
-        names: &[String],
+        listed: &FolderNames,
         name: &str,
-    ) -> Result<Rules, AllocError>
-        ensures rules { IfOk result (λ rules. InTree (T.snapshot tree.old)
-            (λ items. rules_in rules ≡ rules_among items stem.now (map string_bytes names.now) name.now)) }
+        room: usize,
+    ) -> Result<Vec<u8>, AllocError>
+        ensures bytes { IfOk result (λ bytes. InTree (T.snapshot tree.old) (λ items.
+            bytes.items ≡ bytes_within room
+            (bytes_among' items stem.now (names_for_rules listed.now) name.now))) }
+        ensures within { IfOk result (λ bytes. length bytes.items ≤ room) }
         ensures unread { OnOk result (Notes (T.snapshot tree.old) self.old self.new
-            (λ items. unread_among items stem.now (map string_bytes names.now) name.now)) }
+            (λ items. unread_among room items stem.now (names_for_rules listed.now) name.now)) }
         ensures keeps { T.snapshot tree.new ≡ T.snapshot tree.old }
     {
-        if is_listed(names, name) {
-            return self.rules_at(tree, stem, name);
+        if !listed.may_have(name) {
+            return Ok(Vec::new(self.alloc));
         }
-        Ok(Rules::none(self.alloc))
+        let path = child_path(self.alloc, stem, name)?;
+        let bytes = self.read(tree, path.as_str())?;
+        self.fitting(path.as_str(), bytes, room)
     }
 
-    /// The rules that a repository has for itself, if one begins in a folder that lists these
-    /// names.
+    /// The bytes of the rules that a repository has for itself.
     fn exclude<T: Look>(
         &mut self,
         tree: &mut T,
-        stem: &str,
-        names: &[String],
-    ) -> Result<Option<Rules>, AllocError>
-        ensures rules { IfOk result (λ exclude. InTree (T.snapshot tree.old)
-            (λ items. rules_if exclude ≡ exclude_read items stem.now (map string_bytes names.now))) }
+        repository: Option<GitFolders>,
+        room: usize,
+    ) -> Result<Option<Vec<u8>>, AllocError>
+        ensures bytes { IfOk result (λ exclude. InTree (T.snapshot tree.old) (λ items. bytes_if exclude
+            ≡ option_map (bytes_within room)
+            (option_map (exclude_bytes items) (option_map repository_folders repository)))) }
+        ensures within { IfOk result (λ exclude. length (unwrap_or (bytes_if exclude) []) ≤ room) }
         ensures unread { OnOk result (Notes (T.snapshot tree.old) self.old self.new
-            (λ items. unread_exclude items stem.now (map string_bytes names.now))) }
+            (λ items. unread_exclude room items (option_map repository_folders repository))) }
         ensures keeps { T.snapshot tree.new ≡ T.snapshot tree.old }
     {
-        if !is_listed(names, ".git") {
+        let Some(folders) = repository else {
             return Ok(None);
-        }
-        let folder = self.git_folder(tree, stem)?;
-        let rules = self.rules_at(tree, folder.as_str(), "info/exclude")?;
-        Ok(Some(rules))
+        };
+        let bytes = self.bytes_linked(tree, folders.shared.as_str(), "info/exclude", room)?;
+        Ok(Some(bytes))
     }
 
-    /// The folder of a repository's own files: `.git`, or the one that the file `.git` names, of a
-    /// worktree or a submodule.
-    fn git_folder<T: Look>(&mut self, tree: &mut T, stem: &str) -> Result<String, AllocError>
-        ensures folder { IfOk result (λ folder. InTree (T.snapshot tree.old)
-            (λ items. string_bytes folder ≡ git_folder' items stem.now)) }
-        ensures unread { OnOk result (Notes (T.snapshot tree.old) self.old self.new
-            (λ items. unread_git items stem.now)) }
-        ensures keeps { T.snapshot tree.new ≡ T.snapshot tree.old }
-    {
-        let path = child_path(self.alloc, stem, ".git")?;
-        let bytes = self.read(tree, path.as_str())?;
-        match path_after(b"gitdir: ", &bytes) {
-            Some(folder) => self.shared_folder(tree, joined(self.alloc, stem, folder)?),
-            None => Ok(path),
-        }
-    }
-
-    /// The folder that all worktrees of a repository share: the one that the file `commondir` in
-    /// this one names, or this one.
-    fn shared_folder<T: Look>(&mut self, tree: &mut T, folder: String) -> Result<String, AllocError>
-        ensures folder { IfOk result (λ shared. InTree (T.snapshot tree.old)
-            (λ items. string_bytes shared ≡ shared_folder' items (string_bytes folder))) }
-        ensures unread { OnOk result (Notes (T.snapshot tree.old) self.old self.new
-            (λ items. unread_file items (entry_path (string_bytes folder) (codes "commondir")))) }
-        ensures keeps { T.snapshot tree.new ≡ T.snapshot tree.old }
-    {
-        let path = child_path(self.alloc, folder.as_str(), "commondir")?;
-        let bytes = self.read(tree, path.as_str())?;
-        match path_after(b"", &bytes) {
-            Some(common) => joined(self.alloc, folder.as_str(), common),
-            None => Ok(folder),
-        }
-    }
-
-    /// The rules of a file below a folder.
-    fn rules_at<T: Look>(
+    /// The bytes of a file below a folder, within what is left of the limit. A link is followed.
+    fn bytes_linked<T: Look>(
         &mut self,
         tree: &mut T,
         stem: &str,
         name: &str,
-    ) -> Result<Rules, AllocError>
-        ensures rules { IfOk result (λ rules. InTree (T.snapshot tree.old)
-            (λ items. rules_in rules ≡ rules_of_item (items (entry_path stem.now name.now)))) }
+        room: usize,
+    ) -> Result<Vec<u8>, AllocError>
+        ensures bytes { IfOk result (λ bytes. InTree (T.snapshot tree.old) (λ items.
+            bytes.items ≡ bytes_within room (bytes_of_item (items (entry_path stem.now name.now))))) }
+        ensures within { IfOk result (λ bytes. length bytes.items ≤ room) }
         ensures unread { OnOk result (Notes (T.snapshot tree.old) self.old self.new
-            (λ items. unread_file items (entry_path stem.now name.now))) }
+            (λ items. unread_within room items (entry_path stem.now name.now))) }
         ensures keeps { T.snapshot tree.new ≡ T.snapshot tree.old }
     {
         let path = child_path(self.alloc, stem, name)?;
-        let bytes = self.read(tree, path.as_str())?;
-        Rules::parse(self.alloc, &bytes)
+        let bytes = self.read_linked(tree, path.as_str())?;
+        self.fitting(path.as_str(), bytes, room)
+    }
+
+    /// The bytes of a rule file if they are within what is left of the limit. Else that is noted.
+    fn fitting(&mut self, path: &str, bytes: Vec<u8>, room: usize) -> Result<Vec<u8>, AllocError>
+        ensures bytes { IfOk result (λ fitting. fitting.items ≡ bytes_within room bytes.items) }
+        ensures within { IfOk result (λ fitting. length fitting.items ≤ room) }
+        ensures unread { OnOk result (paths_noted self.new
+            ≡ paths_noted self.old ++ only_if (nat_lt room (length bytes.items)) path.now) }
+    {
+        if bytes.len() > room {
+            self.note(path, ListFault::ManyRules)?;
+            return Ok(Vec::new(self.alloc));
+        }
+        Ok(bytes)
     }
 
     /// The bytes of a file. What cannot be read is noted.
@@ -351,6 +451,31 @@ impl FolderReader {
         ensures keeps { T.snapshot tree.new ≡ T.snapshot tree.old }
     {
         let read = WholeFile::read(self.alloc, tree, path)?;
+        self.bytes(path, read)
+    }
+
+    /// The same, but a link is followed to a file. In a snapshot a link has no bytes.
+    pub(crate) fn read_linked<T: Look>(
+        &mut self,
+        tree: &mut T,
+        path: &str,
+    ) -> Result<Vec<u8>, AllocError>
+        ensures bytes { IfOk result (λ bytes. InTree (T.snapshot tree.old)
+            (λ items. bytes.items ≡ bytes_of_item (items path.now))) }
+        ensures unread { OnOk result (Notes (T.snapshot tree.old) self.old self.new
+            (λ items. unread_file items path.now)) }
+        ensures keeps { T.snapshot tree.new ≡ T.snapshot tree.old }
+    {
+        let read = WholeFile::read_linked(self.alloc, tree, path)?;
+        self.bytes(path, read)
+    }
+
+    /// The bytes that were read. Why a file has none is noted.
+    fn bytes(&mut self, path: &str, read: WholeFile) -> Result<Vec<u8>, AllocError>
+        ensures bytes { IfOk result (λ bytes. bytes.items ≡ read.bytes.items) }
+        ensures unread { OnOk result (paths_noted self.new
+            ≡ paths_noted self.old ++ only_if (is_some read.fault) path.now) }
+    {
         if let Some(fault) = read.fault {
             self.note(path, fault)?;
         }
@@ -466,7 +591,12 @@ impl FolderReader {
     }
 
     /// What is at a path. What is gone by now is not noted.
-    fn look<T: Look>(&mut self, tree: &mut T, path: &str) -> Result<Option<Seen>, AllocError>
+    #[inline(always)]
+    pub(crate) fn look<T: Look>(
+        &mut self,
+        tree: &mut T,
+        path: &str,
+    ) -> Result<Option<Seen>, AllocError>
         ensures seen { IfOk result (λ seen. InTree (T.snapshot tree.old)
             (λ items. option_map kind_seen seen ≡ kind_at items path.now)) }
         ensures stamp { IfOk result (λ seen. IfSome seen (λ seen. InStamps (T.snapshot tree.old) T.stamps

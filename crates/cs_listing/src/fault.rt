@@ -12,10 +12,13 @@ pub enum ListFault {
     LongPath,
     /// A rule file has more than 1 MB. It counts as one without rules.
     LongRules,
+    /// The rule files along a path have more than 1 MB with this one. It counts as one without
+    /// rules.
+    ManyRules,
 }
 
 /// A path that could not be read.
-#[derive(Debug, Drop)]
+#[derive(Drop)]
 pub struct Unread {
     pub path: String,
     pub fault: ListFault,

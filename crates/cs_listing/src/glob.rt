@@ -4,8 +4,8 @@
 ghost use Rattle.std.specs.Prelude.{◌≡◌, ◌+◌, ◌≤◌, ◌∷◌, false, length};
 ghost use Rattle.cs_prefilter.specs.CountsAtMost.{CountsAtMost};
 ghost use Rattle.cs_listing.specs.MatchWork.{token_work, tokens_work, name_work, pair_work, path_work};
-ghost use Rattle.cs_listing.specs.Globs.{is_in_ranges as is_in_ranges', accepts_byte, matches_name as matches_name', matches_path as matches_path', star, folders};
-ghost use Rattle.cs_listing.specs.Models.{token_of, tokens_of, glob_of, names};
+ghost use Rattle.cs_listing.specs.Globs.{is_in_ranges as is_in_ranges', accepts_byte, matches_name as matches_name', matches_path as matches_path', star, folders, is_nothing as is_nothing', can_match_name as can_match_name', can_match_element as can_match_element', can_match as can_match'};
+ghost use Rattle.cs_listing.specs.Models.{token_of, tokens_of, element_of, glob_of, names};
 ghost use Rattle.cs_listing.specs.Matching.{NameStepSays, NameStepTakes, PathStepSays};
 
 use cs_prefilter::Steps;
@@ -13,7 +13,7 @@ use memchr::memchr;
 use std::marker::Model;
 
 /// What a part of a name has to match.
-#[derive(Debug, Drop)]
+#[derive(Drop)]
 pub(crate) enum Token {
     Byte(u8),
     /// `?`: any byte.
@@ -28,7 +28,7 @@ pub(crate) enum Token {
 }
 
 /// What a part of a path has to match.
-#[derive(Debug, Drop)]
+#[derive(Drop)]
 pub(crate) enum Element {
     /// `**`: any number of folders, also none.
     Folders,
@@ -57,6 +57,39 @@ impl Token {
             Token::Star => false,
         }
     }
+}
+
+/// Whether a token is a class without a byte.
+fn is_nothing(token: &Token) -> bool
+    ensures { result ≡ is_nothing' (token_of token.now) }
+{
+    match token {
+        Token::Class { negated, ranges } => !*negated && ranges.is_empty(),
+        _ => false,
+    }
+}
+
+/// Whether the tokens can match a name.
+fn can_match_name(tokens: &[Token]) -> bool
+    ensures { result ≡ can_match_name' (tokens_of tokens.now) }
+{
+    !tokens.is_empty() && !tokens.iter().any(is_nothing)
+}
+
+fn can_match_element(element: &Element) -> bool
+    ensures { result ≡ can_match_element' (element_of element.now) }
+{
+    match element {
+        Element::Folders => true,
+        Element::One(tokens) => can_match_name(tokens),
+    }
+}
+
+/// Whether a glob can match a path: no element is empty, and none has a class without a byte.
+pub(crate) fn can_match(glob: &[Element]) -> bool
+    ensures { result ≡ can_match' (glob_of glob.now) }
+{
+    glob.iter().all(can_match_element)
 }
 
 fn is_in_ranges(ranges: &[(u8, u8)], byte: u8) -> bool

@@ -2,6 +2,7 @@
 ghost use Rattle.std.specs.Prelude.{◌≡◌, ◌++◌, ◌<◌, ◌||◌, IfOk, OnOk, length, drop, if◌then◌else◌};
 ghost use Rattle.cs_listing.specs.GlobText.{glob_in, elements_in, first_token as first_token', class_of, nothing as nothing', element as element', last_element, is_slash as is_slash', is_star as is_star', is_double_star as is_double_star'};
 ghost use Rattle.std.specs.Path.{slash};
+ghost use Rattle.cs_listing.specs.Globs.{one as one'};
 ghost use Rattle.cs_listing.specs.Classes.{begins_with as begins_with'};
 ghost use Rattle.cs_listing.specs.Models.{token_of, tokens_of, element_of, glob_of};
 ghost use Rattle.cs_listing.specs.Reading.{ReadsToken};
@@ -19,10 +20,18 @@ pub(crate) fn parse_glob(alloc: Global, text: &[u8]) -> Result<Vec<Element>, All
     if !text.contains(&b'/') {
         glob.push(Element::Folders)?;
         add_elements(alloc, &mut glob, text)?;
-        return Ok(glob);
+        return Ok(fitted(glob));
     }
     add_elements(alloc, &mut glob, without_slash(text))?;
-    Ok(glob)
+    Ok(fitted(glob))
+}
+
+/// The same elements, without memory for more of them: a rule file may have a million globs.
+fn fitted(mut glob: Vec<Element>) -> Vec<Element>
+    ensures { result.items ≡ glob.items }
+{
+    glob.shrink_to_fit();
+    glob
 }
 
 /// The text without a slash that it begins with.
@@ -135,6 +144,14 @@ fn element(tokens: Vec<Token>) -> Element
     if is_double_star(&tokens) {
         return Element::Folders;
     }
+    one(tokens)
+}
+
+/// An element of these tokens, without memory for more of them.
+fn one(mut tokens: Vec<Token>) -> Element
+    ensures { element_of result ≡ one' (tokens_of tokens.items) }
+{
+    tokens.shrink_to_fit();
     Element::One(tokens)
 }
 
@@ -144,12 +161,12 @@ fn add_last(alloc: Global, glob: &mut Vec<Element>, tokens: Vec<Token>) -> Resul
         ≡ glob_of glob.old.items ++ last_element (tokens_of tokens.items)) }
 {
     if !is_double_star(&tokens) {
-        glob.push(Element::One(tokens))?;
+        glob.push(one(tokens))?;
         return Ok(());
     }
     let mut all = Vec::new(alloc);
     all.push(Token::Star)?;
     glob.push(Element::Folders)?;
-    glob.push(Element::One(all))?;
+    glob.push(one(all))?;
     Ok(())
 }

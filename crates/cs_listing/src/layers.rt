@@ -1,8 +1,10 @@
 // What all rule files along a path say together.
-ghost use Rattle.std.specs.Prelude.{◌≡◌, ◌≤◌, ◌++◌, [], ◌∷◌, drop, length, IfOk, OnOk, OnErr, IfSome, IsSome, is_some, ◌↔◌, ◌<◌, ◌+◌, ◌||◌};
+ghost use Rattle.std.specs.Prelude.{◌≡◌, ◌≤◌, ◌++◌, [], ◌∷◌, drop, length, IfOk, OnOk, OnErr, IfSome, IsSome, is_some, ◌↔◌, ◌<◌, ◌+◌, ◌-◌, ◌||◌};
 ghost use Rattle.std.specs.Option.{option_to_list};
 ghost use Rattle.cs_prefilter.specs.CountsAtMost.{CountsAtMost};
-ghost use Rattle.cs_listing.specs.Layers.{without_rules, rules_at, deepest as deepest', repository_of as repository_of', repository_says, says as says', last_name as last_name', said_of, is_out_by_rules as is_out_by_rules', is_left_out as is_left_out'};
+ghost use Rattle.cs_listing.specs.RuleFileReads.{most_rule_bytes};
+ghost use Rattle.cs_listing.specs.RuleTexts.{bytes_of_texts, folder_of_texts};
+ghost use Rattle.cs_listing.specs.Layers.{without_rules, rule_bytes, room_after as room_after', rules_at, deepest as deepest', repository_of as repository_of', repository_says, says as says', last_name as last_name', said_of, is_out_by_rules as is_out_by_rules', is_left_out as is_left_out'};
 ghost use Rattle.cs_listing.specs.Choices.{Settings, is_too_deep as is_too_deep'};
 ghost use Rattle.cs_listing.specs.MatchWork.{rules_work};
 ghost use Rattle.cs_listing.specs.LayersWork.{files_work, repository_work};
@@ -16,7 +18,7 @@ use std::alloc::{AllocError, Global};
 use std::marker::Model;
 
 /// The rule files of a folder. A file that is not there is one without rules.
-#[derive(Debug, Drop)]
+#[derive(Drop)]
 pub struct FolderRules {
     /// The name of the folder; of `/` it counts nowhere.
     pub name: String,
@@ -26,10 +28,25 @@ pub struct FolderRules {
     pub gitignore: Rules,
     /// If a repository begins here, the rules of its `info/exclude`.
     pub exclude: Option<Rules>,
+    /// The bytes of these files.
+    pub bytes: usize,
+}
+
+/// The most bytes of all rule files along a path.
+const MOST_RULE_BYTES: usize = 1 << 20;
+
+/// The bytes of the rule files of a folder.
+#[derive(Drop)]
+pub(crate) struct RuleTexts {
+    pub(crate) ignore: Vec<u8>,
+    pub(crate) gitignore: Vec<u8>,
+    pub(crate) exclude: Option<Vec<u8>>,
+    /// How many they are.
+    pub(crate) bytes: usize,
 }
 
 /// The rule files that may stand in each folder.
-#[derive(Clone, Copy, Debug)]
+#[derive(Clone, Copy)]
 enum RuleFile {
     Ignore,
     Gitignore,
@@ -48,7 +65,7 @@ struct Repository<'f, 'p, 'n> {
 /// The rule files that count in a folder: those of the folders along its path, the topmost first. A
 /// path is given by its elements below the topmost folder, so it has one name for each folder: the
 /// last one is that of an entry of the deepest folder.
-#[derive(Debug, Drop)]
+#[derive(Drop)]
 pub struct Layers<'a> {
     folders: Vec<FolderRules>,
     choices: &'a Choices,
@@ -71,7 +88,33 @@ impl FolderRules {
             } else {
                 None
             },
+            bytes: 0,
         }
+    }
+
+    /// A folder with these rule files.
+    pub(crate) fn parse(
+        alloc: Global,
+        name: String,
+        texts: &RuleTexts,
+    ) -> Result<FolderRules, AllocError>
+        ensures rules { IfOk result (λ folder. texts.now.bytes ≡ bytes_of_texts texts.now →
+            folder_of folder ≡ folder_of_texts texts.now) }
+        ensures name { IfOk result (λ folder. folder.name ≡ name) }
+    {
+        let ignore = Rules::parse(alloc, &texts.ignore)?;
+        let gitignore = Rules::parse(alloc, &texts.gitignore)?;
+        let exclude = match &texts.exclude {
+            Some(bytes) => Some(Rules::parse(alloc, bytes)?),
+            None => None,
+        };
+        Ok(FolderRules {
+            name,
+            ignore,
+            gitignore,
+            exclude,
+            bytes: texts.bytes,
+        })
     }
 
     fn rules(&self, file: RuleFile) -> &Rules
@@ -82,6 +125,17 @@ impl FolderRules {
             RuleFile::Gitignore => &self.gitignore,
         }
     }
+}
+
+/// The bytes that are left after the rule files of folders.
+fn room_after(folders: &[FolderRules]) -> usize
+    ensures { result ≡ most_rule_bytes - rule_bytes (folders_of folders.now) }
+{
+    let mut room = MOST_RULE_BYTES;
+    'folders: for folder in folders {
+        room = room.saturating_sub(folder.bytes);
+    }
+    room
 }
 
 /// What the files of this kind say: that of the deepest folder whose file says anything.
@@ -204,11 +258,14 @@ impl<'a> Layers<'a> {
         self.folders.pop()
     }
 
-    /// Whether rule files count for nothing.
-    pub(crate) fn takes_ignored(&self) -> bool
-        ensures { result ≡ (settings_of self.now).takes_ignored }
+    /// The bytes that are left for the rule files of a folder of the deepest one, if they count.
+    pub(crate) fn room(&self) -> Option<usize>
+        ensures { result ≡ room_after' (settings_of self.now).takes_ignored (folders_in self.now) }
     {
-        self.choices.takes_ignored
+        if !self.choices.takes_ignored {
+            return Some(room_after(&self.folders));
+        }
+        None
     }
 
     /// The names of the folders below the topmost one: the path of the deepest folder.

@@ -10,7 +10,7 @@ ghost use Rattle.cs_listing.specs.MatchWork.{path_work, rules_work};
 ghost use Rattle.cs_listing.specs.Marks.{rule_marks};
 ghost use Rattle.cs_listing.specs.RuleFiles.{rules_of, rule_of_line, rule_in, rule_saying, rules_saying};
 
-use crate::braces::alternatives;
+use crate::braces::{alternatives, are_globs};
 use crate::classes::begins_with;
 use crate::glob::{Element, matches_glob};
 use crate::glob_parsing::parse_glob;
@@ -22,7 +22,7 @@ use std::alloc::{AllocError, Global};
 use std::marker::Model;
 
 /// What a rule says of what it matches.
-#[derive(Clone, Copy, Debug, PartialEq, Eq)]
+#[derive(Clone, Copy, PartialEq, Eq)]
 pub enum Decision {
     Ignore,
     /// A rule with `!`.
@@ -40,7 +40,7 @@ impl Decision {
     }
 }
 
-#[derive(Debug, Drop)]
+#[derive(Drop)]
 pub(crate) struct Rule {
     decision: Decision,
     /// A rule that ends in a slash.
@@ -49,7 +49,7 @@ pub(crate) struct Rule {
 }
 
 /// The rules of a file, in order.
-#[derive(Debug, Drop)]
+#[derive(Drop)]
 pub struct Rules {
     rules: Vec<Rule>,
     /// What the last name of a path needs for each rule.
@@ -123,7 +123,7 @@ impl Rules {
     ghost use Rattle.cs_listing.specs.Reading.{AddsRule};
 
     /// Adds the globs that a text with braces stands for. It may begin with `!`. False if there are
-    /// none.
+    /// none, or if one of them can match nothing.
     pub(crate) fn add_globs(&mut self, alloc: Global, text: &[u8]) -> Result<bool, AllocError>
         ensures { IfOk result
             (λ is_glob. AddsGlobs (globs_in text.now) is_glob (rules_in self.old) (rules_in self.new)) }
@@ -147,6 +147,9 @@ impl Rules {
         let Some(globs) = alternatives(alloc, text)? else {
             return Ok(false);
         };
+        if !are_globs(alloc, &globs)? {
+            return Ok(false);
+        }
         for glob in globs.iter() {
             self.add_rule(alloc, decision, glob)?;
         }

@@ -1,7 +1,7 @@
 // The types of files that a search may be limited to.
-ghost use Rattle.std.specs.Prelude.{◌≡◌};
+ghost use Rattle.std.specs.Prelude.{◌≡◌, map};
 ghost use Rattle.cs_listing.specs.Reading.{lent};
-ghost use Rattle.cs_listing.specs.Types.{globs_among, file_types};
+ghost use Rattle.cs_listing.specs.Types.{globs_among, file_types, type_of};
 
 /// The types in the order of their names, each with the globs of its files, which have spaces
 /// between them.
@@ -125,7 +125,14 @@ pub const TYPES: [(&str, &str); 86] = [
 pub(crate) fn globs_of(name: &str) -> Option<&'static str>
     ensures { lent result ≡ globs_among file_types name.now }
 {
-    'types: for (own, globs) in &TYPES {
+    globs_in(&TYPES, name)
+}
+
+/// The globs of a type, if it is one of these.
+fn globs_in<'t>(types: &'t [(&'t str, &'t str)], name: &str) -> Option<&'t str>
+    ensures { lent result ≡ globs_among (map type_of types.now) name.now }
+{
+    'types: for (own, globs) in types {
         if *own == name {
             return Some(*globs);
         }

@@ -1,268 +1,336 @@
 // The rules of a user for all repositories, in the file that git's settings name.
-ghost use Rattle.std.specs.Prelude.{◌≡◌, Some, IfOk, OnOk, option_map, string_bytes};
+ghost use Rattle.std.specs.Prelude.{◌≡◌, ◌<◌, IfOk, OnOk, string_bytes};
 ghost use Rattle.cs_listing.specs.Reading.{lent};
 ghost use Rattle.cs_listing.specs.Models.{rules_in};
+ghost use Rattle.cs_listing.specs.GitFolders.{bytes_of_item};
 ghost use Rattle.cs_listing.specs.FolderReads.{InTree};
-ghost use Rattle.cs_listing.specs.SettingReads.{bytes_if, Adds, ReadsByte};
-ghost use Rattle.cs_listing.specs.UserRules.{is_blank as is_blank', without_blanks as without_blanks', after_word as after_word', value_of, is_core as is_core', after_head as after_head', value_in_line as value_in_line', assigned as assigned', as_text as as_text', excludes_in, excludes_at, expanded as expanded', user_file as user_file', user_rules as user_rules'};
+ghost use Rattle.cs_listing.specs.ReportsAll.{unread_paths, Notes};
+ghost use Rattle.cs_listing.specs.Settings.{said_in as said_in'};
+ghost use Rattle.cs_listing.specs.SettingReads.{text_if, directive_read, said_read, found_in, Finds, ReadsDirective};
+ghost use Rattle.cs_listing.specs.UserRules.{user_of, expanded as expanded', stem_of_file as stem_of_file', path_in_file as path_in_file', pattern_in_file as pattern_in_file', anchored as anchored', matches_rule as matches_rule', holds as holds', noted, refused, with_file, after_file, after_settings, rules_file, rules_from, unread_at, user_rules as user_rules', unread_settings};
 
 use crate::classes::begins_with;
 use crate::entries::{FolderReader, child_path};
-use crate::fault::Unread;
+use crate::fault::{ListFault, Unread};
+use crate::paths::path_names;
 use crate::rules::Rules;
-use cs_tree::Look;
+use crate::settings_text::{Directive, Said, said_in};
+use cs_prefilter::Steps;
+use cs_tree::{Look, TreeFault};
 use std::alloc::{AllocError, Global};
-use std::str::from_utf8;
+
+/// The most files of settings that are read.
+const MOST_FILES: usize = 1000;
+
+/// How deep files of settings include one another.
+const MOST_DEPTH: usize = 10;
+
+/// Where the settings of a user are.
+#[derive(Clone, Copy)]
+pub struct UserFiles<'u> {
+    pub home: &'u str,
+    /// `.config` in the user's folder, or another one.
+    pub config: &'u str,
+    /// The value of GIT_CONFIG_GLOBAL, if it is set.
+    pub global: Option<&'u str>,
+}
 
 /// The rules of a user for all repositories.
-#[derive(Debug, Drop)]
+#[derive(Drop)]
 pub struct UserRules {
     pub rules: Rules,
-    /// The files that could not be read. Each counts as empty.
+    /// The files that could not be read, or that have a bad line.
     pub unread: Vec<Unread>,
 }
 
-/// The rules of a user: those of the file that `core.excludesFile` names in `.gitconfig` in the
-/// folder `home`, or in `git/config` in the folder `config`, or else of `git/ignore` there.
+/// What is read of the settings of a user.
+#[derive(Drop)]
+struct FoundSettings {
+    alloc: Global,
+    reader: FolderReader,
+    /// The last value of `core.excludesFile`.
+    value: Option<String>,
+    /// One more than the number of files that may still be read.
+    files: usize,
+}
+
+/// The rules of a user: those of the file that the last value of `core.excludesFile` in the
+/// settings names, or else of `git/ignore` in the folder of settings. The path is that of the git
+/// folder of the repository that a search begins in.
 pub fn user_rules<T: Look>(
     alloc: Global,
     tree: &mut T,
-    home: &str,
-    config: &str,
+    user: &UserFiles<'_>,
+    git: Option<&str>,
 ) -> Result<UserRules, AllocError>
-    ensures rules { IfOk result (λ user. InTree (T.snapshot tree.old)
-        (λ items. rules_in user.rules ≡ user_rules' items home.now config.now)) }
+    ensures rules { IfOk result (λ read. InTree (T.snapshot tree.old)
+        (λ items. rules_in read.rules ≡ user_rules' items (user_of user.now git.entry))) }
+    ensures unread { IfOk result (λ read. InTree (T.snapshot tree.old)
+        (λ items. unread_paths read.unread.items ≡ unread_settings items (user_of user.now git.entry))) }
     ensures keeps { T.snapshot tree.new ≡ T.snapshot tree.old }
 {
-    let mut reader = FolderReader::new(alloc);
-    let path = user_file(alloc, tree, &mut reader, home, config)?;
-    let bytes = reader.read(tree, path.as_str())?;
-    let rules = Rules::parse(alloc, &bytes)?;
-    let unread = reader.unread;
-    Ok(UserRules { rules, unread })
-}
-
-/// The path of the file of a user's rules.
-fn user_file<T: Look>(
-    alloc: Global,
-    tree: &mut T,
-    reader: &mut FolderReader,
-    home: &str,
-    config: &str,
-) -> Result<String, AllocError>
-    ensures file { IfOk result (λ path. InTree (T.snapshot tree.old)
-        (λ items. string_bytes path ≡ user_file' items home.now config.now)) }
-    ensures keeps { T.snapshot tree.new ≡ T.snapshot tree.old }
-{
-    if let Some(path) = named_file(alloc, tree, reader, home, ".gitconfig")? {
-        return expanded(alloc, home, path);
-    }
-    match named_file(alloc, tree, reader, config, "git/config")? {
-        Some(path) => expanded(alloc, home, path),
-        None => child_path(alloc, config, "git/ignore"),
-    }
-}
-
-/// The path that a file of settings gives.
-fn named_file<T: Look>(
-    alloc: Global,
-    tree: &mut T,
-    reader: &mut FolderReader,
-    folder: &str,
-    name: &str,
-) -> Result<Option<String>, AllocError>
-    ensures named { IfOk result (λ path. InTree (T.snapshot tree.old)
-        (λ items. option_map string_bytes path ≡ excludes_at items folder.now name.now)) }
-    ensures keeps { T.snapshot tree.new ≡ T.snapshot tree.old }
-{
-    let path = child_path(alloc, folder, name)?;
-    let bytes = reader.read(tree, path.as_str())?;
-    excludes_file(alloc, &bytes)
-}
-
-/// A path with `~/` for a folder.
-fn expanded(alloc: Global, home: &str, path: String) -> Result<String, AllocError>
-    ensures { IfOk result (λ all. string_bytes all ≡ expanded' home.now (string_bytes path)) }
-{
-    match path.strip_prefix("~/") {
-        Some(rest) => child_path(alloc, home, rest),
-        None => Ok(path),
-    }
-}
-
-/// The last value of `core.excludesFile` in a text of settings, if it is text.
-fn excludes_file(alloc: Global, text: &[u8]) -> Result<Option<String>, AllocError>
-    ensures { IfOk result (λ file. option_map string_bytes file ≡ excludes_in text.now) }
-{
-    let mut file = None;
-    let mut core = false;
-    for line in text.split(|byte| *byte == b'\n') {
-        let line = without_blanks(line);
-        core = is_core(core, line);
-        file = value_in_line(alloc, core, line)?.or(file);
-    }
-    as_text(alloc, file)
-}
-
-/// A value as a path.
-fn as_text(alloc: Global, value: Option<Vec<u8>>) -> Result<Option<String>, AllocError>
-    ensures { IfOk result (λ path. option_map string_bytes path ≡ as_text' (bytes_if value)) }
-{
-    let Some(bytes) = value else {
-        return Ok(None);
+    let mut found = FoundSettings {
+        alloc,
+        reader: FolderReader::new(alloc),
+        value: None,
+        files: MOST_FILES + 1,
     };
-    match from_utf8(&bytes) {
-        Ok(text) => Ok(Some(String::from_str(alloc, text)?)),
-        Err(_) => Ok(None),
-    }
+    found.follow_all(tree, user, git)?;
+    let rules = found.rules(tree, user)?;
+    Ok(UserRules {
+        rules,
+        unread: found.reader.unread,
+    })
 }
 
-fn is_blank(byte: u8) -> bool
-    ensures { result ≡ is_blank' byte }
-{
-    byte == b' ' || (9 <= byte && byte <= 13)
-}
-
-/// The text without blanks at its beginning.
-fn without_blanks(text: &[u8]) -> &[u8]
-    ensures { result.now ≡ without_blanks' text.now }
-{
-    let mut rest = text;
-    'blanks: while let Some((byte, more)) = rest.split_first() {
-        if !is_blank(*byte) {
-            return rest;
-        }
-        rest = more;
-    }
-    rest
-}
-
-/// What follows a word that a text begins with, in small letters or large ones.
-fn after_word<'t>(word: &[u8], text: &'t [u8]) -> Option<&'t [u8]>
-    ensures { lent result ≡ after_word' word.now text.now }
-{
-    if text.len() < word.len() {
-        return None;
-    }
-    let (start, rest) = text.split_at(word.len());
-    if start.eq_ignore_ascii_case(word) {
-        Some(rest)
-    } else {
-        None
-    }
-}
-
-/// Whether a line is in the section `core`, if the line before it is or not.
-fn is_core(before: bool, line: &[u8]) -> bool
-    ensures { result ≡ is_core' before line.now }
-{
-    if begins_with(b'[', line) {
-        after_word(b"[core]", line).is_some()
-    } else {
-        before
-    }
-}
-
-/// A line without the head of the section `core`.
-fn after_head(line: &[u8]) -> &[u8]
-    ensures { result.now ≡ after_head' line.now }
-{
-    without_blanks(after_word(b"[core]", line).unwrap_or(line))
-}
-
-/// The value of `excludesFile` in a line, which may be in the section `core`.
-fn value_in_line(alloc: Global, core: bool, line: &[u8]) -> Result<Option<Vec<u8>>, AllocError>
-    ensures { IfOk result (λ value. bytes_if value ≡ value_in_line' core line.now) }
-{
-    if !core {
-        return Ok(None);
-    }
-    match after_word(b"excludesfile", after_head(line)) {
-        Some(text) => assigned(alloc, text),
-        None => Ok(None),
-    }
-}
-
-/// The value that a text gives after `=`.
-fn assigned(alloc: Global, text: &[u8]) -> Result<Option<Vec<u8>>, AllocError>
-    ensures { IfOk result (λ value. bytes_if value ≡ assigned' (Some text.now)) }
-{
-    match without_blanks(text).split_first() {
-        Some((b'=', rest)) => Ok(Some(value(alloc, without_blanks(rest))?)),
-        _ => Ok(None),
-    }
-}
-
-/// What is read of a value.
-#[derive(Drop)]
-struct Reading {
-    value: Vec<u8>,
-    /// Blanks after the value, which count if more of it comes.
-    blanks: Vec<u8>,
-    /// Whether the next byte is between quotation marks.
-    is_quoted: bool,
-    /// Whether a backslash quotes the next byte.
-    is_escaped: bool,
-}
-
-impl Reading {
-    /// Reads one byte. False at a comment.
-    fn read(&mut self, byte: u8) -> Result<bool, AllocError>
-        ensures { IfOk result (λ goes_on. ReadsByte self.old self.new byte goes_on) }
+impl FoundSettings {
+    /// Reads the settings of a user.
+    fn follow_all<T: Look>(
+        &mut self,
+        tree: &mut T,
+        user: &UserFiles<'_>,
+        git: Option<&str>,
+    ) -> Result<(), AllocError>
+        ensures found { OnOk result (Finds (T.snapshot tree.old) self.new
+            (λ items. after_settings items (user_of user.now git.entry) (found_in self.old))) }
+        ensures keeps { T.snapshot tree.new ≡ T.snapshot tree.old }
     {
-        if self.is_escaped {
-            self.is_escaped = false;
-            self.push(byte)?;
-            return Ok(true);
+        if let Some(path) = user.global {
+            return self.follow(tree, user, git, path, MOST_DEPTH + 1);
         }
-        if byte == b'\\' {
-            self.is_escaped = true;
-            return Ok(true);
-        }
-        if byte == b'"' {
-            self.is_quoted = !self.is_quoted;
-            return Ok(true);
-        }
-        if self.is_quoted {
-            self.push(byte)?;
-            return Ok(true);
-        }
-        if byte == b'#' || byte == b';' {
-            return Ok(false);
-        }
-        if is_blank(byte) {
-            self.blanks.push(byte)?;
-            return Ok(true);
-        }
-        self.push(byte)?;
-        Ok(true)
+        let first = child_path(self.alloc, user.config, "git/config")?;
+        let second = child_path(self.alloc, user.home, ".gitconfig")?;
+        self.follow(tree, user, git, first.as_str(), MOST_DEPTH + 1)?;
+        self.follow(tree, user, git, second.as_str(), MOST_DEPTH + 1)
     }
 
-    /// Adds a byte to the value, after the blanks before it.
-    fn push(&mut self, byte: u8) -> Result<(), AllocError>
-        ensures { OnOk result (Adds self.old self.new byte) }
+    /// Reads a file of settings and those that it includes, to a depth.
+    fn follow<T: Look>(
+        &mut self,
+        tree: &mut T,
+        user: &UserFiles<'_>,
+        git: Option<&str>,
+        path: &str,
+        depth: usize,
+    ) -> Result<(), AllocError>
+        ensures found { OnOk result (Finds (T.snapshot tree.old) self.new
+            (λ items. after_file items (user_of user.now git.entry) depth path.now (found_in self.old))) }
+        ensures keeps { T.snapshot tree.new ≡ T.snapshot tree.old }
     {
-        self.value.extend_from_slice(&self.blanks)?;
-        self.blanks.clear();
-        self.value.push(byte)?;
+        if depth == 0 || self.files <= 1 {
+            return self.refuse(path);
+        }
+        let said = self.read(tree, path)?;
+        let mut later = said.directives.as_slice();
+        'directives: while let Some((directive, rest)) = later.split_first() {
+            if let Some(included) = self.directive(user, git, path, directive)? {
+                self.follow(tree, user, git, included.as_str(), depth - 1)?;
+            }
+            later = rest;
+        }
         Ok(())
     }
-}
 
-/// The value of a text, without its marks, its comment and the blanks at its end.
-fn value(alloc: Global, text: &[u8]) -> Result<Vec<u8>, AllocError>
-    ensures { IfOk result (λ value. value.items ≡ value_of text.now) }
-{
-    let mut reading = Reading {
-        value: Vec::new(alloc),
-        blanks: Vec::new(alloc),
-        is_quoted: false,
-        is_escaped: false,
-    };
-    for byte in text {
-        if !reading.read(*byte)? {
-            return Ok(reading.value);
+    /// Notes a file that is not read. After too many the first one alone is noted.
+    fn refuse(&mut self, path: &str) -> Result<(), AllocError>
+        ensures { OnOk result (found_in self.new ≡ refused path.now (found_in self.old)) }
+    {
+        if self.files > 0 {
+            self.files -= 1;
+            self.note(path)?;
+        }
+        Ok(())
+    }
+
+    /// Notes a file of settings that is not taken as it is.
+    fn note(&mut self, path: &str) -> Result<(), AllocError>
+        ensures { OnOk result (found_in self.new ≡ noted path.now (found_in self.old)) }
+    {
+        self.reader.note(path, ListFault::Tree(TreeFault::Failed))
+    }
+
+    /// Reads one file of settings, and notes it if it has a bad line.
+    fn read<T: Look>(&mut self, tree: &mut T, path: &str) -> Result<Said, AllocError>
+        requires { 0 < self.old.files }
+        ensures said { IfOk result (λ said. InTree (T.snapshot tree.old)
+            (λ items. said_read said ≡ said_in' (bytes_of_item (items path.now)))) }
+        ensures found { OnOk result (Finds (T.snapshot tree.old) self.new
+            (λ items. with_file items path.now (found_in self.old))) }
+        ensures keeps { T.snapshot tree.new ≡ T.snapshot tree.old }
+    {
+        self.files -= 1;
+        let bytes = self.reader.read_linked(tree, path)?;
+        let said = said_in(self.alloc, &bytes)?;
+        if said.is_bad {
+            self.note(path)?;
+        }
+        Ok(said)
+    }
+
+    /// Reads a directive of a file. Returns the path of the file that it includes.
+    fn directive(
+        &mut self,
+        user: &UserFiles<'_>,
+        git: Option<&str>,
+        file: &str,
+        directive: &Directive,
+    ) -> Result<Option<String>, AllocError>
+        ensures { IfOk result (λ path. ReadsDirective (user_of user.now git.entry) file.now
+            (directive_read directive.now) (found_in self.old) (found_in self.new) (text_if path)) }
+    {
+        match directive {
+            Directive::Excludes(path) => {
+                self.value = Some(String::from_str(self.alloc, path.as_str())?);
+                Ok(None)
+            }
+            Directive::Includes(None, path) => {
+                let path = path_in_file(self.alloc, user.home, file, path.as_str())?;
+                Ok(Some(path))
+            }
+            Directive::Includes(Some(condition), path) => {
+                if !holds(self.alloc, user.home, file, condition.as_str(), git)? {
+                    return Ok(None);
+                }
+                let path = path_in_file(self.alloc, user.home, file, path.as_str())?;
+                Ok(Some(path))
+            }
         }
     }
-    Ok(reading.value)
+
+    /// The rules of the file that is named.
+    fn rules<T: Look>(&mut self, tree: &mut T, user: &UserFiles<'_>) -> Result<Rules, AllocError>
+        ensures rules { IfOk result (λ rules. InTree (T.snapshot tree.old) (λ items. rules_in rules
+            ≡ rules_from items (rules_file user.now.home.now user.now.config.now (text_if self.old.value)))) }
+        ensures unread { OnOk result (Notes (T.snapshot tree.old) self.old.reader self.new.reader
+            (λ items. unread_at items
+            (rules_file user.now.home.now user.now.config.now (text_if self.old.value)))) }
+        ensures keeps { T.snapshot tree.new ≡ T.snapshot tree.old }
+    {
+        let Some(path) = self.rules_file(user)? else {
+            return Ok(Rules::none(self.alloc));
+        };
+        let bytes = self.reader.read_linked(tree, path.as_str())?;
+        Rules::parse(self.alloc, &bytes)
+    }
+
+    /// The path of that file.
+    fn rules_file(&self, user: &UserFiles<'_>) -> Result<Option<String>, AllocError>
+        ensures { IfOk result (λ path. text_if path
+            ≡ rules_file user.now.home.now user.now.config.now (text_if self.now.value)) }
+    {
+        let path = match &self.value {
+            None => child_path(self.alloc, user.config, "git/ignore")?,
+            Some(path) if path.is_empty() => return Ok(None),
+            Some(path) => expanded(self.alloc, user.home, path.as_str())?,
+        };
+        Ok(Some(path))
+    }
+}
+
+/// A path whose `~` is the user's folder.
+fn expanded(alloc: Global, home: &str, path: &str) -> Result<String, AllocError>
+    ensures { IfOk result (λ all. string_bytes all ≡ expanded' home.now path.now) }
+{
+    if path == "~" {
+        return String::from_str(alloc, home);
+    }
+    match path.strip_prefix("~/") {
+        Some(rest) => child_path(alloc, home, rest),
+        None => String::from_str(alloc, path),
+    }
+}
+
+/// A path up to its last slash, with it.
+fn stem_of_file(alloc: Global, path: &str) -> Result<String, AllocError>
+    ensures { IfOk result (λ stem. string_bytes stem ≡ stem_of_file' path.now) }
+{
+    match path.rsplit_once('/') {
+        Some((folder, _)) => child_path(alloc, folder, ""),
+        None => Ok(String::new(alloc)),
+    }
+}
+
+/// A path in the file of settings at another path.
+fn path_in_file(alloc: Global, home: &str, file: &str, path: &str) -> Result<String, AllocError>
+    ensures { IfOk result (λ all. string_bytes all ≡ path_in_file' home.now file.now path.now) }
+{
+    let path = expanded(alloc, home, path)?;
+    if begins_with(b'/', path.as_bytes()) {
+        return Ok(path);
+    }
+    let mut all = stem_of_file(alloc, file)?;
+    all.push_str(path.as_str())?;
+    Ok(all)
+}
+
+/// The pattern of a condition as a rule for paths below `/`.
+fn pattern_in_file(
+    alloc: Global,
+    home: &str,
+    file: &str,
+    pattern: &str,
+) -> Result<String, AllocError>
+    ensures { IfOk result (λ all. string_bytes all ≡ pattern_in_file' home.now file.now pattern.now) }
+{
+    let pattern = expanded(alloc, home, pattern)?;
+    let mut all = anchored(alloc, file, pattern)?;
+    if all.as_bytes().ends_with(b"/") {
+        all.push_str("**")?;
+    }
+    Ok(all)
+}
+
+/// A pattern that begins with a slash, or with `**/`.
+fn anchored(alloc: Global, file: &str, pattern: String) -> Result<String, AllocError>
+    ensures { IfOk result (λ all. string_bytes all ≡ anchored' file.now (string_bytes pattern)) }
+{
+    if begins_with(b'/', pattern.as_bytes()) {
+        return Ok(pattern);
+    }
+    if let Some(rest) = pattern.strip_prefix("./") {
+        let mut all = stem_of_file(alloc, file)?;
+        all.push_str(rest)?;
+        return Ok(all);
+    }
+    let mut all = String::from_str(alloc, "**/")?;
+    all.push_str(pattern.as_str())?;
+    Ok(all)
+}
+
+/// Whether a condition in a file holds of the git folder.
+fn holds(
+    alloc: Global,
+    home: &str,
+    file: &str,
+    condition: &str,
+    git: Option<&str>,
+) -> Result<bool, AllocError>
+    ensures { IfOk result (λ is_met. is_met ≡ holds' home.now file.now condition.now (lent git.entry)) }
+{
+    let Some(git) = git else {
+        return Ok(false);
+    };
+    if let Some(pattern) = condition.strip_prefix("gitdir:") {
+        let rule = pattern_in_file(alloc, home, file, pattern)?;
+        return matches_rule(alloc, rule.as_str(), git);
+    }
+    let Some(pattern) = condition.strip_prefix("gitdir/i:") else {
+        return Ok(false);
+    };
+    let rule = pattern_in_file(alloc, home, file, pattern)?.to_ascii_lowercase(alloc)?;
+    let git = git.to_ascii_lowercase(alloc)?;
+    matches_rule(alloc, rule.as_str(), git.as_str())
+}
+
+/// Whether a rule matches a whole path.
+fn matches_rule(alloc: Global, rule: &str, path: &str) -> Result<bool, AllocError>
+    ensures { IfOk result (λ is_match. is_match ≡ matches_rule' rule.now path.now) }
+{
+    let rules = Rules::parse(alloc, rule.as_bytes())?;
+    let elements = path_names(alloc, path)?;
+    let mut names = Vec::new(alloc);
+    'names: for name in &elements {
+        names.push(name.as_bytes())?;
+    }
+    Ok(rules.decide(&names, false, &mut Steps::new()).is_some())
 }

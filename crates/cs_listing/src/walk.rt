@@ -19,7 +19,7 @@ use std::alloc::{AllocError, Global};
 use std::collections::BTreeSet;
 
 /// A file of the project.
-#[derive(Debug, Drop)]
+#[derive(Drop)]
 pub struct File {
     /// The path, from `/` on.
     pub path: String,
@@ -27,7 +27,7 @@ pub struct File {
 }
 
 /// What a walk comes to.
-#[derive(Debug, Drop)]
+#[derive(Drop)]
 pub enum Found {
     File(File),
     /// What could not be read. The walk goes on.
@@ -44,7 +44,7 @@ enum Step {
 }
 
 /// A folder whose entries are still to come.
-#[derive(Debug, Drop)]
+#[derive(Drop)]
 struct Frame {
     /// The text before the slash in the paths of its entries, which is empty for `/`.
     stem: String,
@@ -53,7 +53,7 @@ struct Frame {
 }
 
 /// A walk of the files of a project below a folder.
-#[derive(Debug, Drop)]
+#[derive(Drop)]
 pub struct Walk<'a> {
     alloc: Global,
     /// The rule files of the folders from `/` down to the deepest open one.
@@ -192,15 +192,13 @@ impl<'a> Walk<'a> {
         ensures reported { self.new.reported ≡ self.old.reported }
         ensures settings { OnOk result (settings_in self.new ≡ settings_in self.old) }
         ensures unread { IfOk result (λ listed. EntersNoting (T.snapshot tree.old) stem.now
-            (map string_bytes listed.names.items) listed self.old self.new) }
+            listed self.old self.new) }
         ensures keeps { T.snapshot tree.new ≡ T.snapshot tree.old }
     {
         let listed = self.reader.list(tree, stem)?;
         let name = String::from_str(self.alloc, name)?;
-        let ignored = self.layers.takes_ignored();
-        let folder = self
-            .reader
-            .folder(tree, stem, &listed.names, name, ignored)?;
+        let room = self.layers.room();
+        let folder = self.reader.folder(tree, stem, &listed, name, room)?;
         self.layers.enter(folder)?;
         Ok(listed)
     }

@@ -1,7 +1,8 @@
 // Reading a file whole: rule files, and those by which a repository names its folder.
 ghost use Rattle.std.specs.Prelude.{◌≡◌, [], IfOk};
 ghost use Rattle.cs_listing.specs.RuleFileReads.{ReadsUpTo, FailsWithin};
-ghost use Rattle.cs_listing.specs.FolderReads.{InTree, ReadsItem, ReadsFileItem, ReadsWhole};
+ghost use Rattle.cs_tree.specs.Snapshot.{Item};
+ghost use Rattle.cs_listing.specs.FolderReads.{InTree, ReadsItem, ReadsFileItem, ReadsOtherItem, ReadsOpen, ReadsWhole};
 
 use crate::fault::ListFault;
 use cs_tree::{IoFault, Kind, Look, Source, Tree, TreeFault, TreeReader};
@@ -41,7 +42,29 @@ impl WholeFile {
             (λ items. ReadsWhole (items path.now) read)) }
         ensures keeps { T.snapshot tree.new ≡ T.snapshot tree.old }
     {
-        match read_item(alloc, tree, path) {
+        let read = read_item(alloc, tree, path);
+        WholeFile::of(alloc, read)
+    }
+
+    /// The same, but a link is followed to a file. In a snapshot a link has no bytes.
+    pub(crate) fn read_linked<T: Look>(
+        alloc: Global,
+        tree: &mut T,
+        path: &str,
+    ) -> Result<WholeFile, AllocError>
+        ensures reads { IfOk result (λ read. InTree (T.snapshot tree.old)
+            (λ items. ReadsWhole (items path.now) read)) }
+        ensures keeps { T.snapshot tree.new ≡ T.snapshot tree.old }
+    {
+        let read = read_linked_item(alloc, tree, path);
+        WholeFile::of(alloc, read)
+    }
+
+    /// What is read of an item, with the error beside it.
+    fn of(alloc: Global, read: Result<Option<Vec<u8>>, TreeFault>) -> Result<WholeFile, AllocError>
+        ensures { IfOk result (λ whole. (item : Item) → ReadsItem item read → ReadsWhole item whole) }
+    {
+        match read {
             Ok(Some(bytes)) => Ok(WholeFile { bytes, fault: None }),
             Ok(None) => Ok(WholeFile::without(alloc, Some(ListFault::LongRules))),
             Err(TreeFault::Memory) => Err(AllocError),
@@ -63,14 +86,50 @@ fn read_item<T: Look>(alloc: Global, tree: &mut T, path: &str) -> Result<Option<
     }
 }
 
+/// The same, but a link is followed.
+fn read_linked_item<T: Look>(
+    alloc: Global,
+    tree: &mut T,
+    path: &str,
+) -> Result<Option<Vec<u8>>, TreeFault>
+    ensures reads { InTree (T.snapshot tree.old) (λ items. ReadsItem (items path.now) result) }
+    ensures keeps { T.snapshot tree.new ≡ T.snapshot tree.old }
+{
+    match tree.look(path) {
+        Ok(seen) if seen.kind == Kind::Other => read_link(alloc, tree, path),
+        Ok(_) => read_item(alloc, tree, path),
+        Err(fault) => Err(fault),
+    }
+}
+
+/// The bytes of the file to which a link leads. One that leads to no file has none.
+fn read_link<T: Look>(alloc: Global, tree: &mut T, path: &str) -> Result<Option<Vec<u8>>, TreeFault>
+    ensures reads { InTree (T.snapshot tree.old) (λ items. ReadsOtherItem (items path.now) result) }
+    ensures keeps { T.snapshot tree.new ≡ T.snapshot tree.old }
+{
+    match tree.open_file(path) {
+        Ok(_) => read_open(alloc, tree),
+        Err(TreeFault::Missing | TreeFault::Failed) => Ok(Some(Vec::new(alloc))),
+        Err(fault) => Err(fault),
+    }
+}
+
 /// The same of a file.
 fn read_file<T: Tree>(alloc: Global, tree: &mut T, path: &str) -> Result<Option<Vec<u8>>, TreeFault>
     ensures reads { InTree (T.snapshot tree.old) (λ items. ReadsFileItem (items path.now) result) }
     ensures keeps { T.snapshot tree.new ≡ T.snapshot tree.old }
 {
-    if let Err(fault) = tree.open(path) {
-        return Err(fault);
+    match tree.open(path) {
+        Ok(()) => read_open(alloc, tree),
+        Err(fault) => Err(fault),
     }
+}
+
+/// The bytes of the open file, from its beginning.
+fn read_open<T: Tree>(alloc: Global, tree: &mut T) -> Result<Option<Vec<u8>>, TreeFault>
+    ensures reads { ReadsOpen (T.snapshot tree.old) (T.opened tree.old) result }
+    ensures keeps { T.snapshot tree.new ≡ T.snapshot tree.old }
+{
     let mut reader = TreeReader::new(tree);
     match read_up_to(alloc, &mut reader, LONGEST_FILE) {
         Ok(read) => Ok(read),

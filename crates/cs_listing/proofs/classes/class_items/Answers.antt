@@ -2,7 +2,7 @@ use Rattle.std.proofs.Common.{[], ◌+◌, ◌++◌, drop, sym, ap, ◌∙◌, a
 use Rattle.std.specs.Prelude.{Some}
 use Rattle.std.proofs.lemmas.List.{take_rest, drop-drop, append-nil}
 use Rattle.cs_listing.specs.Classes.{class_items}
-use Rattle.cs_listing.proofs.ClassLemmas.{begins_some, item_takes, after_items, after_both, class_ends, class_goes_on}
+use Rattle.cs_listing.proofs.ClassLemmas.{begins_some, item_takes, after_items, after_both, class_ends, class_goes_on, none_after}
 use Rattle.cs_listing.proofs.classes.class_items.Goals as goal
 
 pub returns-then-begins_with : goal.returns-then-begins_with
@@ -37,4 +37,5 @@ items-preserved c =
           ∙ ap (λ t. after_items (c.items.ranges.items ++ item.0) (at + n) (class_items t)) (drop-drop n at text)
           ∙ ap (λ r. after_items r (at + n) (class_items (drop (at + n) text))) (sym item.2);
       within = omega (arith, item.3, length-drop at text);
+      plain = none_after text at n _ c.name_at-name.ensures.before;
     }

@@ -4,16 +4,18 @@ use Rattle.std.specs.BTreeSet.{BTreeSet, contains_text}
 use Rattle.std.specs.declared.alloc.Global.{Global}
 use Rattle.std.proofs.lemmas.List.{take_all}
 use Rattle.cs_tree.proofs.NameLemmas.{mapped_more}
-use Rattle.cs_listing.specs.Models.{all_names}
+use Rattle.cs_listing.specs.Models.{all_names, folders_in}
+use Rattle.cs_listing.specs.Listing.{folders_to}
 use Rattle.cs_listing.specs.FolderReads.{InTree, entry_path}
 use Rattle.cs_listing.specs.Unreadable.{unread_rules_to}
 use Rattle.cs_listing.specs.ReportsAll.{paths_noted, EntersNoting}
 use Rattle.cs_listing.specs.Walk.{Enters, settings_in}
 use Rattle.cs_listing.specs.declared.walk.Walk.{Walk}
-use Rattle.cs_listing.proofs.BeginLemmas.{HasEntered, enters_root, enters_more, begins, no_names}
+use Rattle.cs_listing.proofs.BeginLemmas.{IsAt, HasEntered, enters_root, enters_more, begins, no_names}
 use Rattle.cs_listing.proofs.ReportLemmas.{none_in}
 use Rattle.cs_listing.proofs.ReportAllLemmas.{begin_noted, begin_more, begins_noting}
 use Rattle.cs_listing.proofs.StepLemmas.{in_tree}
+use Rattle.cs_listing.proofs.UnreadLemmas.{from_one}
 use Rattle.cs_listing.proofs.StampLemmas.{begins_stamped}
 use Rattle.cs_listing.proofs.walk.Walk.begin.Goals as goal
 
@@ -29,7 +31,8 @@ start-init g c =
     c.in_ok-listed.ensures.names c.in_ok-listed.ensures.frames in
     let noted = begin_noted s s [] (string_bytes c.new-stem.result) names c.in_ok-listed.listed before c.enter.new.self (λ items. []) refl
     entered c.in_ok-listed.ensures.settings
-    (subst (λ stem. EntersNoting s stem names c.in_ok-listed.listed before c.enter.new.self) c.as_str.ensures.value c.in_ok-listed.ensures.unread)
+    (subst (λ stem. EntersNoting s stem c.in_ok-listed.listed before c.enter.new.self) c.as_str.ensures.value c.in_ok-listed.ensures.unread)
+    (in_tree s (λ items. folders_in before.layers ≡ []) (λ items. c.new.ensures.folders))
     (in_tree s (λ items. paths_noted before.reader ≡ []) (λ items. c.new-3.ensures)) in
     record {
       entered = entered;
@@ -60,8 +63,11 @@ start-preserved g c =
     c.in_ok-listed-2.ensures.frames in
     let noted = begin_more s (g.T.Tree.snapshot c.start.tree) before name (string_bytes c.in_ok-stem.stem) listed c.in_ok-listed-2.listed
     c.start.walk c.enter-in-start.new.self c.start.invariant.kept entered c.in_ok-listed-2.ensures.settings
-    (subst (λ stem. EntersNoting (g.T.Tree.snapshot c.start.tree) stem listed c.in_ok-listed-2.listed c.start.walk c.enter-in-start.new.self)
-    c.as_str-in-start-4.ensures.value c.in_ok-listed-2.ensures.unread) c.start.invariant.noted in
+    (subst (λ stem. EntersNoting (g.T.Tree.snapshot c.start.tree) stem c.in_ok-listed-2.listed c.start.walk c.enter-in-start.new.self)
+    c.as_str-in-start-4.ensures.value c.in_ok-listed-2.ensures.unread)
+    (from_one s (λ items. IsAt items (reverse before) c.start.walk (map string_bytes c.start.listed.names.items))
+    (λ items. folders_in c.start.walk.layers ≡ folders_to (settings_in c.start.walk).takes_ignored items (reverse before))
+    (λ items is. is.0) c.start.invariant.entered.at) c.start.invariant.noted in
     record {
       entered = subst (λ ns. HasEntered s ns c.enter-in-start.new.self (string_bytes c.in_ok-stem.stem) listed) (sym more) entered;
       settings = c.in_ok-listed-2.ensures.settings ∙ c.start.invariant.settings;

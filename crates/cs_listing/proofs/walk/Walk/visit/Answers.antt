@@ -43,7 +43,7 @@ returns-clause-unread g c =
     c.as_str-2.ensures.value c.in_ok-listed.ensures.enters)
     c.in_ok-listed.ensures.names c.in_ok-listed.ensures.frames c.in_ok-listed.ensures.settings c.open.ensures.layers
     (c.open.ensures.reported ∙ c.in_ok-listed.ensures.reported)
-    (subst (λ stem. EntersNoting (g.T.Tree.snapshot c.args.tree.now) stem names c.in_ok-listed.listed c.args.self.now c.enter.new.self)
+    (subst (λ stem. EntersNoting (g.T.Tree.snapshot c.args.tree.now) stem c.in_ok-listed.listed c.args.self.now c.enter.new.self)
     c.as_str-2.ensures.value c.in_ok-listed.ensures.unread)
     c.open.ensures.opens c.open.ensures.unread
 

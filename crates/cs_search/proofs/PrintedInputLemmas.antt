@@ -66,7 +66,7 @@ module _ (limit : ℕ) (tool : Tool) (style : Style) (has_match : List ℕ → B
   opened-at (Err fault) later out out' err err' matched is p = absurd is
 
   pub Prints-opened : (snapshot : Option Snapshot) (later : Option SourceModel) (out out' err err' : Option SinkModel)
-      (matched : Bool) → OpensFile snapshot name (Ok tt) later →
+      (matched : Bool) → OpensFile {A = Unit {0}} snapshot name (Ok tt) later →
       Prints (option_map (input_printed limit tool style has_match name) (open_model snapshot later)) out out' err err'
       matched → Prints (option_map (λ (s : Snapshot). file_printed limit tool style has_match s name) snapshot) out out'
       err err' matched
@@ -77,12 +77,12 @@ module _ (limit : ℕ) (tool : Tool) (style : Style) (has_match : List ℕ → B
 
   -- a file that was not opened
   refused-at : (fault : TreeFault) (opening : Result SourceModel TreeFault) (later : Option SourceModel) →
-      fault ≢ tree.Memory → OpensFileAs (Err fault) opening later → opening ≡ Err fault
+      fault ≢ tree.Memory → OpensFileAs {A = Unit {0}} (Err fault) opening later → opening ≡ Err fault
   refused-at tree.Memory opening later not o = absurd (not refl)
   refused-at fault opening later not o = o.0
 
   pub Prints-refused : (snapshot : Option Snapshot) (fault : TreeFault) (later : Option SourceModel)
-      (out err err' : Option SinkModel) → fault ≢ tree.Memory → OpensFile snapshot name (Err fault) later →
+      (out err err' : Option SinkModel) → fault ≢ tree.Memory → OpensFile {A = Unit {0}} snapshot name (Err fault) later →
       Grows err err' (fault_line_of tool name (file_fault_of fault)) →
       Prints (option_map (λ (s : Snapshot). file_printed limit tool style has_match s name) snapshot) out out err err'
       false
@@ -121,7 +121,7 @@ module _ (limit : ℕ) (tool : Tool) (style : Style) (has_match : List ℕ → B
   prefix-at (Err fault) later out out' err err' is p = absurd is
 
   pub PrintsPrefix-opened : (snapshot : Option Snapshot) (later : Option SourceModel)
-      (out out' err err' : Option SinkModel) → OpensFile snapshot name (Ok tt) later →
+      (out out' err err' : Option SinkModel) → OpensFile {A = Unit {0}} snapshot name (Ok tt) later →
       PrintsPrefix (option_map (input_printed limit tool style has_match name) (open_model snapshot later)) out out' err
       err' → PrintsPrefix (option_map (λ (s : Snapshot). file_printed limit tool style has_match s name) snapshot) out
       out' err err'
@@ -130,7 +130,7 @@ module _ (limit : ℕ) (tool : Tool) (style : Style) (has_match : List ℕ → B
   PrintsPrefix-opened (Some s) later out out' err err' opens p = prefix-at (opening_of (item_at s name)) later out out' err err' opens p
 
   pub PrintsPrefix-refused : (snapshot : Option Snapshot) (fault : TreeFault) (later : Option SourceModel)
-      (out err err' : Option SinkModel) → fault ≢ tree.Memory → OpensFile snapshot name (Err fault) later →
+      (out err err' : Option SinkModel) → fault ≢ tree.Memory → OpensFile {A = Unit {0}} snapshot name (Err fault) later →
       TakesPrefix (fault_line_of tool name (file_fault_of fault)) err err' →
       PrintsPrefix (option_map (λ (s : Snapshot). file_printed limit tool style has_match s name) snapshot) out out err
       err'

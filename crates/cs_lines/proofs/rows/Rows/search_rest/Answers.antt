@@ -1,0 +1,17 @@
+use Rattle.std.proofs.Common.{ℕ, List, take, subst, arith}
+use Rattle.std.specs.Prelude.{OnOk}
+use Rattle.std.proofs.lemmas.List.{take_rest, length-take-le}
+use Rattle.cs_match.specs.LastPart.{last_line}
+use Rattle.cs_match.specs.Lines.{terminated_lines}
+use Rattle.cs_lines.specs.Scans.{SearchesLast}
+use Rattle.cs_lines.proofs.rows.Rows.search_rest.Goals as goal
+
+pub search_last-requires-clause-room : goal.search_last-requires-clause-room
+search_last-requires-clause-room g c = omega (arith, c.requires.room, length-take-le c.args.from c.args.text.now c.requires.within)
+
+pub returns-clause-rows : goal.returns-clause-rows
+returns-clause-rows g c =
+    let text = c.args.text.now in
+    subst (λ (rest : List ℕ). OnOk c.search_last.result (SearchesLast c.args.search.now c.search_last.new.search c.args.self.now c.search_last.new.self
+    (g.O.Output.given c.args.out.now) (g.O.Output.given c.search_last.new.out) (terminated_lines (take c.args.from text)) (last_line rest)))
+    (take_rest text c.args.from) c.search_last.ensures.rows

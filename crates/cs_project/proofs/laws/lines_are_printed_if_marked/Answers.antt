@@ -1,5 +1,0 @@
-use Rattle.cs_project.proofs.LawLemmas.{printed_if_marked}
-use Rattle.cs_project.proofs.laws.lines_are_printed_if_marked.Goals as goal
-
-pub returns : goal.returns
-returns c = printed_if_marked

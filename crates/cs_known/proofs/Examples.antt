@@ -7,9 +7,9 @@ use Rattle.cs_trigram.specs.Trigram.{has}
 use Rattle.cs_trigram.specs.declared.queries.Query.TheVariants.{All, Nothing}
 use Rattle.cs_trigram.proofs.QueryLemmas.{matches_set-All, matches_set-Nothing}
 use Rattle.cs_index.specs.OpenedParts.{files_in, files_read}
-use Rattle.cs_project.specs.declared.binary.BinaryFiles.TheVariants.{WithoutMatch, Binary, Text}
-use Rattle.cs_project.specs.declared.form.Mode.TheVariants.{Lines, Counts, Others}
-use Rattle.cs_project.specs.declared.form.ShowOptions.{ShowOptions}
+use Rattle.cs_lines.specs.declared.binary.BinaryFiles.TheVariants.{WithoutMatch, Binary, Text}
+use Rattle.cs_lines.specs.declared.form.Mode.TheVariants.{Lines, Counts, Others}
+use Rattle.cs_lines.specs.declared.form.ShowOptions.{ShowOptions}
 use Rattle.cs_state.specs.Known.{indexed, binary, apart, ProjectState}
 use Rattle.cs_known.specs.Skipped.{is_skipped, matches_some}
 

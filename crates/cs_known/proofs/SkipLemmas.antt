@@ -6,8 +6,8 @@ use Rattle.std.proofs.lemmas.Bool.{and_from, or_left, or_right}
 use Rattle.std.proofs.lemmas.Slice.Eq.{bytes_eq-Decides}
 use Rattle.cs_tree.specs.declared.tree.Stamp.{Stamp}
 use Rattle.cs_trigram.specs.declared.queries.Query.{Query}
-use Rattle.cs_project.specs.declared.binary.BinaryFiles.{BinaryFiles}
-use Rattle.cs_project.specs.declared.form.ShowOptions.{ShowOptions}
+use Rattle.cs_lines.specs.declared.binary.BinaryFiles.{BinaryFiles}
+use Rattle.cs_lines.specs.declared.form.ShowOptions.{ShowOptions}
 use Rattle.cs_state.specs.Known.{IsListed, Kept, Known, ProjectState, binary, indexed, is_same_stamp}
 use Rattle.cs_state.specs.Others.{other_of}
 use Rattle.cs_state.specs.declared.others.Unindexed.TheVariants.{Binary}

@@ -9,19 +9,19 @@ use Rattle.cs_match.specs.Lines.{lines}
 use Rattle.cs_trigram.specs.Trigram.{tri, has}
 use Rattle.cs_trigram.specs.Query.{matches_set, HasTrigrams, LosesNoLine}
 use Rattle.cs_trigram.specs.declared.queries.Query.{Query}
-use Rattle.cs_project.specs.Findings.{Finding, Tests}
-use Rattle.cs_project.specs.Project.{nothing_shown, searched_as, shown_as, text_shown}
-use Rattle.cs_project.specs.Shown.{at_most, binary_groups, count_bytes, count_of, groups_by, has_groups, is_binary, is_wanted, line_groups, name_groups, text_rows, total_groups}
-use Rattle.cs_project.specs.declared.form.Mode.{Mode}
-use Rattle.cs_project.specs.declared.form.Mode.TheVariants.{Lines, Counts, Names, Others}
-use Rattle.cs_project.specs.declared.binary.BinaryFiles.{BinaryFiles}
-use Rattle.cs_project.specs.declared.binary.BinaryFiles.TheVariants.{WithoutMatch, Binary, Text}
-use Rattle.cs_project.specs.declared.form.ShowOptions.{ShowOptions}
-use Rattle.cs_project.specs.declared.search.LineSearch.{LineSearch}
+use Rattle.cs_lines.specs.Findings.{Finding, Tests}
+use Rattle.cs_lines.specs.Project.{nothing_shown, searched_as, shown_as, text_shown}
+use Rattle.cs_lines.specs.Shown.{at_most, binary_groups, count_bytes, count_of, groups_by, has_groups, is_binary, is_wanted, line_groups, name_groups, text_rows, total_groups}
+use Rattle.cs_lines.specs.declared.form.Mode.{Mode}
+use Rattle.cs_lines.specs.declared.form.Mode.TheVariants.{Lines, Counts, Names, Others}
+use Rattle.cs_lines.specs.declared.binary.BinaryFiles.{BinaryFiles}
+use Rattle.cs_lines.specs.declared.binary.BinaryFiles.TheVariants.{WithoutMatch, Binary, Text}
+use Rattle.cs_lines.specs.declared.form.ShowOptions.{ShowOptions}
+use Rattle.cs_lines.specs.declared.search.LineSearch.{LineSearch}
 use Rattle.cs_known.specs.Skipped.{leaves_out, lists_others, prints_unmatched}
 use Rattle.cs_known.proofs.LineLemmas.{lines_known}
 
--- the law of cs_project that lines are printed if and only if one is marked
+-- the law of cs_lines that lines are printed if and only if one is marked
 abbrev pub LinesPrintedIfMarked : Type 0
 LinesPrintedIfMarked = (options : ShowOptions) (finding : Finding) (name text : List ℕ) →
     has_groups (line_groups options finding name (text_rows options finding text)) ≡ nat_lt 0 (count_of options finding text)

@@ -14,11 +14,11 @@ use Rattle.cs_trigram.specs.declared.queries.Query.{Query}
 use Rattle.cs_trigram.specs.declared.scan.Reason.{Reason}
 use Rattle.cs_trigram.proofs.LawLemmas.{none_skipped}
 use Rattle.cs_index.specs.OpenedParts.{files_in}
-use Rattle.cs_project.specs.Findings.{Finding}
-use Rattle.cs_project.specs.Project.{nothing_shown, text_shown}
-use Rattle.cs_project.specs.declared.binary.BinaryFiles.{BinaryFiles}
-use Rattle.cs_project.specs.declared.form.ShowOptions.{ShowOptions}
-use Rattle.cs_project.specs.declared.search.LineSearch.{LineSearch}
+use Rattle.cs_lines.specs.Findings.{Finding}
+use Rattle.cs_lines.specs.Project.{nothing_shown, text_shown}
+use Rattle.cs_lines.specs.declared.binary.BinaryFiles.{BinaryFiles}
+use Rattle.cs_lines.specs.declared.form.ShowOptions.{ShowOptions}
+use Rattle.cs_lines.specs.declared.search.LineSearch.{LineSearch}
 use Rattle.cs_state.specs.Known.{Known, Kept, indexed, binary, apart, ProjectState}
 use Rattle.cs_known.specs.Skipped.{is_silent, is_skipped, matches_some, prints_nothing, prints_unmatched}
 use Rattle.cs_known.specs.Learned.{Run, ReadsAs, IsLearnedIn, StillHolds, View}

@@ -7,7 +7,7 @@ use Rattle.cs_tree.specs.Reachability.{read_item}
 use Rattle.cs_tree.specs.declared.tree.Stamp.{Stamp}
 use Rattle.cs_trigram.specs.Text.{text_trigrams, limits}
 use Rattle.cs_index.specs.OpenedParts.{Parts, files_in}
-use Rattle.cs_project.specs.Shown.{is_binary}
+use Rattle.cs_lines.specs.Shown.{is_binary}
 use Rattle.cs_state.specs.Known.{Known, Kept, indexed, binary, apart, ProjectState, is_old}
 
 -- What a run sees at each name of a project: the item, and its stamp, if it is a file that has one.

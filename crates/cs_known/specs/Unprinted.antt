@@ -4,11 +4,11 @@ use Rattle.cs_tree.specs.Snapshot.{Item, file}
 use Rattle.cs_tree.specs.declared.tree.Stamp.{Stamp}
 use Rattle.cs_trigram.specs.Query.{LosesNoLine}
 use Rattle.cs_trigram.specs.declared.queries.Query.{Query}
-use Rattle.cs_project.specs.Findings.{Finding, IsFoundBy}
-use Rattle.cs_project.specs.Project.{nothing_shown, text_shown}
-use Rattle.cs_project.specs.declared.binary.BinaryFiles.{BinaryFiles}
-use Rattle.cs_project.specs.declared.form.ShowOptions.{ShowOptions}
-use Rattle.cs_project.specs.declared.search.LineSearch.{LineSearch}
+use Rattle.cs_lines.specs.Findings.{Finding, IsFoundBy}
+use Rattle.cs_lines.specs.Project.{nothing_shown, text_shown}
+use Rattle.cs_lines.specs.declared.binary.BinaryFiles.{BinaryFiles}
+use Rattle.cs_lines.specs.declared.form.ShowOptions.{ShowOptions}
+use Rattle.cs_lines.specs.declared.search.LineSearch.{LineSearch}
 use Rattle.cs_state.specs.Known.{ProjectState}
 use Rattle.cs_known.specs.Skipped.{is_skipped}
 use Rattle.cs_known.specs.Learned.{Run, StillHolds, View}

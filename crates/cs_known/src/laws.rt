@@ -1,7 +1,7 @@
 // Laws of the definitions. These functions do nothing.
 ghost use Rattle.cs_known.specs.Unprinted.{SkippedPathsPrintNothing, SkippedPrintNothing};
 
-use cs_project::laws::lines_are_printed_if_marked;
+use cs_lines::laws::lines_are_printed_if_marked;
 
 /// A file that is skipped can be read, and prints nothing.
 pub fn a_skipped_file_prints_nothing()

@@ -33,6 +33,3 @@ pub use known_files::{KnownFiles, StoredFiles};
 pub use lookup::FileLookup;
 pub use options::SkipOptions;
 pub use seen::SeenFile;
-
-#[cfg(test)]
-mod tests;

@@ -2,7 +2,7 @@
 // it.
 
 /// What is known of a file by its name and stamp.
-#[derive(Clone, Copy, Debug, PartialEq, Eq)]
+#[derive(Clone, Copy, PartialEq, Eq)]
 pub enum FileLookup {
     /// It is known, and prints nothing.
     Skipped,

@@ -4,11 +4,11 @@ ghost use Rattle.cs_known.specs.KnownFiles.{LooksUpOthers, LooksUpTexts};
 ghost use Rattle.cs_known.specs.Skipped.{leaves_out, lists_others, prints_unmatched};
 
 use crate::lookup::FileLookup;
-use cs_project::{BinaryFiles, Mode, ShowOptions};
+use cs_lines::{BinaryFiles, Mode, ShowOptions};
 use cs_state::Unindexed;
 
 /// The options of a search that files are skipped by.
-#[derive(Clone, Copy, Debug, PartialEq, Eq)]
+#[derive(Clone, Copy, PartialEq, Eq)]
 pub struct SkipOptions {
     /// Something is printed of a text without a match (`-v`, `-L`).
     pub prints_unmatched: bool,

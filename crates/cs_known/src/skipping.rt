@@ -1,8 +1,8 @@
 // Which files a search skips.
 ghost use Rattle.std.specs.Prelude.{◌≡◌, ℕ, List, Some, IfOk, IfSome};
 ghost use Rattle.cs_trigram.specs.declared.queries.Query.{Query};
-ghost use Rattle.cs_project.specs.declared.binary.BinaryFiles.{BinaryFiles};
-ghost use Rattle.cs_project.specs.declared.form.ShowOptions.{ShowOptions};
+ghost use Rattle.cs_lines.specs.declared.binary.BinaryFiles.{BinaryFiles};
+ghost use Rattle.cs_lines.specs.declared.form.ShowOptions.{ShowOptions};
 ghost use Rattle.cs_state.specs.Known.{IsListed, ProjectState};
 ghost use Rattle.cs_state.specs.OpenedStates.{HasIndex};
 ghost use Rattle.cs_state.specs.Others.{other_of};

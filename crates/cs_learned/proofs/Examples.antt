@@ -3,8 +3,8 @@ use Rattle.std.proofs.Common.{◌≡◌, ℕ, Bool, true, false, List, [], ◌�
 use Rattle.cs_tree.specs.Snapshot.{file}
 use Rattle.cs_tree.specs.declared.tree.Stamp.{Stamp}
 use Rattle.cs_trigram.specs.declared.queries.Query.TheVariants.{Nothing}
-use Rattle.cs_project.specs.declared.form.Mode.TheVariants.{Lines}
-use Rattle.cs_project.specs.declared.form.ShowOptions.{ShowOptions}
+use Rattle.cs_lines.specs.declared.form.Mode.TheVariants.{Lines}
+use Rattle.cs_lines.specs.declared.form.ShowOptions.{ShowOptions}
 use Rattle.cs_state.specs.Known.{binary, apart, ProjectState}
 use Rattle.cs_known.specs.Learned.{View}
 use Rattle.cs_learned.specs.Fresh.{ListedFile, items_read}

@@ -1,11 +1,11 @@
 -- A search that skips files is a search of every file.
 use Rattle.std.proofs.Common.{◌≡◌, Bool, true, false, cond, not, ◌||◌, ◌++◌, List, [], ◌∷◌, map, filter, refl, sym, ap, ◌∙◌}
 use Rattle.cs_trigram.specs.declared.queries.Query.{Query}
-use Rattle.cs_project.specs.Findings.{Finding}
-use Rattle.cs_project.specs.Project.{ItemShown, nothing_shown}
-use Rattle.cs_project.specs.Shown.{between, following}
-use Rattle.cs_project.specs.declared.form.ShowOptions.{ShowOptions}
-use Rattle.cs_project.specs.declared.search.LineSearch.{LineSearch}
+use Rattle.cs_lines.specs.Findings.{Finding}
+use Rattle.cs_lines.specs.Project.{ItemShown, nothing_shown}
+use Rattle.cs_lines.specs.Shown.{between, following}
+use Rattle.cs_lines.specs.declared.form.ShowOptions.{ShowOptions}
+use Rattle.cs_lines.specs.declared.search.LineSearch.{LineSearch}
 use Rattle.cs_fresh.specs.Searched.{are_marked, binary_as, item_groups, items_printed, shown_of}
 use Rattle.cs_state.specs.Known.{ProjectState}
 use Rattle.cs_known.specs.Learned.{Run, StillHolds, View}

@@ -1,11 +1,11 @@
 -- What the files of a state are known for.
-use Rattle.std.proofs.Common.{◌≡◌, ◌∙◌, ◌++◌, ℕ, false, true, List, Option, None, Some, ap, refl, subst, sym}
+use Rattle.std.proofs.Common.{◌≡◌, ◌∙◌, ◌++◌, ℕ, false, true, List, Option, None, Some, ap, subst, sym}
 use Rattle.std.specs.Prelude.{IfOk, Result, Ok, Err}
 use Rattle.std.specs.Str.Pattern.{FindsTextPrefix, StripsPrefix}
 use Rattle.cs_tree.specs.declared.tree.Stamp.{Stamp}
 use Rattle.cs_trigram.specs.declared.queries.Query.{Query}
-use Rattle.cs_project.specs.declared.binary.BinaryFiles.{BinaryFiles}
-use Rattle.cs_project.specs.declared.form.ShowOptions.{ShowOptions}
+use Rattle.cs_lines.specs.declared.binary.BinaryFiles.{BinaryFiles}
+use Rattle.cs_lines.specs.declared.form.ShowOptions.{ShowOptions}
 use Rattle.cs_state.specs.Known.{ProjectState}
 use Rattle.cs_fresh.specs.Knowledge.{HoldsAsBefore, SkipsNothingShown}
 use Rattle.cs_fresh.specs.Searched.{binary_as, item_groups}
@@ -14,7 +14,7 @@ use Rattle.cs_known.specs.Skipped.{is_skipped}
 use Rattle.cs_known.specs.Unprinted.{IsSkippedBelow, SkippedPathsPrintNothing}
 use Rattle.cs_known.specs.declared.known_files.KnownFiles.{KnownFiles}
 use Rattle.cs_known.specs.declared.lookup.FileLookup.{FileLookup}
-use Rattle.cs_known.specs.declared.lookup.FileLookup.TheVariants.{Skipped, Unknown}
+use Rattle.cs_known.specs.declared.lookup.FileLookup.TheVariants.{Skipped}
 use Rattle.cs_learned.specs.KnownProjects.{IsFoundIn, IsKnownFor, KeepsFiles}
 
 pub stripped : (path root name : List ℕ) → StripsPrefix (FindsTextPrefix root) path name → path ≡ root ++ name

@@ -1,13 +1,9 @@
 -- What a state knows, however far its file is read.
-use Rattle.std.proofs.Common.{◌≡◌, ◌∙◌, ℕ, Bool, false, true, List, Option, None, Some, ap, refl, subst, sym}
+use Rattle.std.proofs.Common.{◌≡◌, ℕ, Bool, false, List, Option, None, Some, subst, sym}
 use Rattle.std.specs.Prelude.{IfOk, IfSome, Result, Ok, Err, string_bytes}
 use Rattle.cs_tree.specs.declared.tree.Stamp.{Stamp}
-use Rattle.cs_trigram.specs.Query.{LosesNoLine}
-use Rattle.cs_trigram.specs.declared.queries.Query.{Query}
 use Rattle.cs_fresh.specs.Knowledge.{HoldsAsBefore, SearchedTree, SkipsNothingShown}
 use Rattle.cs_fresh.specs.Searched.{binary_as}
-use Rattle.cs_state.specs.Known.{ProjectState}
-use Rattle.cs_state.specs.ProjectStates.{IsState}
 use Rattle.cs_known.specs.KnownFiles.{AreOptions, Knows}
 use Rattle.cs_known.specs.declared.known_files.KnownFiles.{KnownFiles}
 use Rattle.cs_learned.specs.ClosedStates.{IsPreparedFor, IsStillKnown, IsUnread}

@@ -1,6 +1,6 @@
 -- A state file that is not read yet, and what is known by a state however far its file is read.
 use Rattle.std.specs.Prelude.{◌≡◌, ℕ, List, Option, Some, IfSome, false}
-use Rattle.cs_project.specs.declared.search.LineSearch.{LineSearch}
+use Rattle.cs_lines.specs.declared.search.LineSearch.{LineSearch}
 use Rattle.cs_trigram.specs.declared.queries.Query.{Query}
 use Rattle.cs_fresh.specs.Knowledge.{SearchedTree}
 use Rattle.cs_fresh.specs.Searched.{binary_as}

@@ -4,9 +4,9 @@
 --     prints, and has its status, if each file whose stamp an earlier run saw, and was old then, still reads as it read then.
 use Rattle.std.specs.Prelude.{◌≡◌, ℕ, Bool, not, List, filter, map}
 use Rattle.cs_trigram.specs.declared.queries.Query.{Query}
-use Rattle.cs_project.specs.Findings.{Finding}
-use Rattle.cs_project.specs.declared.form.ShowOptions.{ShowOptions}
-use Rattle.cs_project.specs.declared.search.LineSearch.{LineSearch}
+use Rattle.cs_lines.specs.Findings.{Finding}
+use Rattle.cs_lines.specs.declared.form.ShowOptions.{ShowOptions}
+use Rattle.cs_lines.specs.declared.search.LineSearch.{LineSearch}
 use Rattle.cs_fresh.specs.Searched.{NamedItem, are_marked, binary_as, items_printed}
 use Rattle.cs_state.specs.Known.{ProjectState}
 use Rattle.cs_known.specs.Skipped.{is_skipped}

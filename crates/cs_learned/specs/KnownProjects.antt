@@ -1,9 +1,9 @@
 -- The search of a tree that the files of a state are known for.
 use Rattle.std.specs.Prelude.{◌≡◌, ℕ, List, Option, Some, None, IfSome, false}
 use Rattle.cs_tree.specs.declared.tree.Stamp.{Stamp}
-use Rattle.cs_project.specs.declared.binary.BinaryFiles.{BinaryFiles}
-use Rattle.cs_project.specs.declared.form.ShowOptions.{ShowOptions}
-use Rattle.cs_project.specs.declared.search.LineSearch.{LineSearch}
+use Rattle.cs_lines.specs.declared.binary.BinaryFiles.{BinaryFiles}
+use Rattle.cs_lines.specs.declared.form.ShowOptions.{ShowOptions}
+use Rattle.cs_lines.specs.declared.search.LineSearch.{LineSearch}
 use Rattle.cs_trigram.specs.declared.queries.Query.{Query}
 use Rattle.cs_fresh.specs.Knowledge.{SearchedTree}
 use Rattle.cs_fresh.specs.Searched.{binary_as}

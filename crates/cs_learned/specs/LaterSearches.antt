@@ -6,9 +6,9 @@ use Rattle.cs_tree.specs.Snapshot.{Item}
 use Rattle.cs_tree.specs.declared.tree.Stamp.{Stamp}
 use Rattle.cs_trigram.specs.declared.queries.Query.{Query}
 use Rattle.cs_index.specs.OpenedParts.{Parts, files_in}
-use Rattle.cs_project.specs.Findings.{Finding}
-use Rattle.cs_project.specs.declared.form.ShowOptions.{ShowOptions}
-use Rattle.cs_project.specs.declared.search.LineSearch.{LineSearch}
+use Rattle.cs_lines.specs.Findings.{Finding}
+use Rattle.cs_lines.specs.declared.form.ShowOptions.{ShowOptions}
+use Rattle.cs_lines.specs.declared.search.LineSearch.{LineSearch}
 use Rattle.cs_fresh.specs.Noted.{AreSeen}
 use Rattle.cs_state.specs.Known.{Known, ProjectState, is_old}
 use Rattle.cs_known.specs.Learned.{IsLearnedIn, ReadsAs, ReadsAsBefore, Run, View}

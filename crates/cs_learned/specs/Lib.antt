@@ -2,5 +2,6 @@
 pub mod Fresh
 pub mod KnownProjects
 pub mod LaterSearches
+pub mod Learnable
 pub mod NotedFiles
 pub mod ClosedStates

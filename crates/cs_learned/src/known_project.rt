@@ -1,13 +1,15 @@
 // What a state knows of a project, as the knowledge of a search.
-ghost use Rattle.std.specs.Prelude.{◌≡◌, ◌++◌, [], Some, IfOk, string_bytes};
+ghost use Rattle.std.specs.Prelude.{◌≡◌, ◌<◌, ◌++◌, [], true, Some, IfOk, string_bytes};
+ghost use Rattle.std.specs.List.{All};
+ghost use Rattle.cs_tree.specs.Cover.{is_absolute};
 ghost use Rattle.cs_fresh.specs.Knowledge.{SkipsNothingShown};
 ghost use Rattle.cs_fresh.specs.Noted.{NotesStamp};
 ghost use Rattle.cs_learned.specs.KnownProjects.{IsFoundIn, IsKnownFor, KeepsFiles};
-ghost use Rattle.cs_learned.specs.NotedFiles.{noted_in};
+ghost use Rattle.cs_learned.specs.Learnable.{IsLearnable};
 
 use cs_known::laws::a_skipped_path_prints_nothing;
 use cs_known::{FileLookup, KnownFiles, SeenFile};
-use cs_tree::{Stamp, Store};
+use cs_tree::{Stamp, Store, is_absolute};
 use std::alloc::{AllocError, Global};
 
 /// The files that an open state knows, for a search that skips those that print nothing, and notes
@@ -21,9 +23,12 @@ pub(crate) struct KnownProject<I, B> {
     pub(crate) files: Option<KnownFiles<I, B>>,
     /// The files below the folder that have a stamp and that the state does not know.
     pub(crate) unknown: Vec<SeenFile>,
+    ghost learnable: { All IsLearnable unknown.items },
 }
 
 impl<I, B> KnownProject<I, B> {
+    ghost use Rattle.cs_learned.specs.NotedFiles.{noted_in};
+
     /// Nothing is noted yet.
     pub(crate) fn new(
         alloc: Global,
@@ -44,6 +49,8 @@ impl<I, B> KnownProject<I, B> {
 
     /// Notes a file, unless its name does not ascend, as below a folder that is searched twice.
     fn note(&mut self, name: &str, stamp: Stamp) -> Result<(), AllocError>
+        requires name { is_absolute name.now ≡ true }
+        requires size { 0 < stamp.size }
         ensures files { self.new.files ≡ self.old.files }
         ensures root { self.new.root ≡ self.old.root }
         ensures notes { NotesStamp (string_bytes self.old.root ++ name.now) (Some stamp)
@@ -76,8 +83,10 @@ impl<I: Store, B: Store> KnownProject<I, B> {
 }
 
 impl<I: Store, B: Store> KnownProject<I, B> {
+    ghost use Rattle.cs_learned.specs.NotedFiles.{noted_in};
+
     /// Whether the file at a path is skipped, since nothing is printed for it. One that is unknown
-    /// is noted.
+    /// is noted, if it can be learned.
     pub(crate) fn skips(&mut self, path: &str, stamp: Option<Stamp>) -> Result<bool, AllocError>
         ensures skips { IfOk result (SkipsNothingShown
             (IsKnownFor I.model B.model (string_bytes self.old.root) self.old.files) path.now stamp) }
@@ -92,6 +101,11 @@ impl<I: Store, B: Store> KnownProject<I, B> {
         let Some(name) = path.strip_prefix(self.root.as_str()) else {
             return Ok(false);
         };
+        // A folder beside the project may have a longer name, and files of /proc say that they are
+        // empty.
+        if !is_absolute(name) || stamp.size == 0 {
+            return Ok(false);
+        }
         match self.find(name, &stamp)? {
             FileLookup::Skipped => Ok(true),
             FileLookup::Known => Ok(false),

@@ -11,7 +11,7 @@
 //! Read `specs/Skipped.antt` and `specs/Learned.antt` of cs_known first (which files are skipped,
 //! what a state knows, and the premises), then `specs/Fresh.antt` (the promise),
 //! `specs/ClosedStates.antt` and `specs/KnownProjects.antt`, and for what is noted
-//! `specs/NotedFiles.antt` and `specs/LaterSearches.antt`.
+//! `specs/NotedFiles.antt`, `specs/Learnable.antt` and `specs/LaterSearches.antt`.
 #![tactic(auto)]
 
 mod closed_state;

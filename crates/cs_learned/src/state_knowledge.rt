@@ -1,17 +1,19 @@
 // The state file of a project as the knowledge of a search.
 ghost use Rattle.std.specs.Prelude.{◌≡◌, ℕ, List, [], false, IfOk, IfSome, string_bytes};
+ghost use Rattle.std.specs.List.{All};
 ghost use Rattle.cs_fresh.specs.Knowledge.{HoldsAsBefore, SearchedTree};
 ghost use Rattle.cs_fresh.specs.Noted.{NotesNothing};
 ghost use Rattle.cs_fresh.specs.Searched.{binary_as};
 ghost use Rattle.cs_learned.specs.ClosedStates.{AsksFor, IsPreparedFor, IsStillKnown, IsUnread};
 ghost use Rattle.cs_learned.specs.KnownProjects.{AreKnownFor};
+ghost use Rattle.cs_learned.specs.Learnable.{IsLearnable};
 ghost use Rattle.cs_learned.specs.NotedFiles.{AreSeenBelow, noted_in};
 
 use crate::closed_state::{ClosedState, PreparedState};
 use crate::known_project::KnownProject;
 use cs_fresh::{AskedSearch, Knowledge};
 use cs_known::{SeenFile, SkipOptions, StoredFiles};
-use cs_project::BinaryFiles;
+use cs_lines::BinaryFiles;
 use cs_state::{FirstBytes, StateFile, SummedBytes};
 use cs_tree::{IoFault, Stamp, Store};
 use cs_trigram::{Query, query};
@@ -70,14 +72,16 @@ impl<S: Store + Drop> StateKnowledge<S> {
     }
 
     /// Whether the state is to be made anew: of the texts that it knows most are not in the
-    /// project, or have another stamp by now.
-    pub fn is_outdated(&self) -> bool {
+    /// project, or have another stamp by now. Only a search shows it that has met all files, and
+    /// has ended by itself.
+    pub fn is_outdated(&self, is_ended: bool) -> bool {
         let texts = match &self.known.files {
             Some(files) => files.text_count() as usize,
             None => 0,
         };
         let found = self.met.saturating_sub(self.known.unknown.len());
-        self.learns && self.is_whole && texts > found.saturating_mul(2).saturating_add(1000)
+        let is_shown = is_ended && self.is_whole;
+        self.learns && is_shown && texts > found.saturating_mul(2).saturating_add(1000)
     }
 
     /// The folder of the project.
@@ -92,6 +96,7 @@ impl<S: Store + Drop> StateKnowledge<S> {
     pub fn unknown(&self) -> &[SeenFile]
         ensures seen { AreSeenBelow (string_bytes self.now.known.root)
             (⟦<StateKnowledge<S> as Knowledge>⟧.noted self.now) result.now }
+        ensures learnable { All IsLearnable result.now }
     {
         if self.is_update || (self.learns && self.met >= FEW) {
             &self.known.unknown

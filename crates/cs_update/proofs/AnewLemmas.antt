@@ -1,5 +1,5 @@
 -- What a run learns was read anew.
-use Rattle.std.proofs.Common.{◌≡◌, ◌∙◌, ℕ, Bool, true, false, List, [], ◌∷◌, map, refl, sym, ap, subst, Option, Some, None, cond, option_map, if◌then◌else◌}
+use Rattle.std.proofs.Common.{◌≡◌, ◌∙◌, ◌⊎◌, ℕ, Bool, true, false, List, [], ◌∷◌, map, refl, sym, ap, subst, Option, Some, None, inl, inr, cond, length, nat_eq, option_map, unwrap_or, if◌then◌else◌}
 use Rattle.std.specs.Prelude.{IsSome, IfSome}
 use Rattle.std.specs.FinMap as map'
 use Rattle.std.specs.FinMap.Entries.{find}
@@ -8,7 +8,7 @@ use Rattle.std.specs.Ordering.{eq_by_cmp, is_eq, is_lt}
 use Rattle.std.specs.Cmp.Lexicographic.{nat_list_cmp_total}
 use Rattle.std.specs.declared.cmp.Ordering.{Ordering}
 use Rattle.std.specs.declared.cmp.Ordering.TheVariants.{Equal, Greater, Less}
-use Rattle.std.proofs.lemmas.Bool.{false≢true, true≢false, and_parts}
+use Rattle.std.proofs.lemmas.Bool.{false≢true, true≢false, and_parts, eqb-true}
 use Rattle.cs_tree.specs.NameOrder.{bytes_cmp}
 use Rattle.cs_tree.specs.NamesAscending.{are_ascending}
 use Rattle.cs_tree.specs.Reachability.{read_item}
@@ -17,18 +17,39 @@ use Rattle.cs_tree.specs.declared.tree.Stamp.{Stamp}
 use Rattle.cs_tree.proofs.PathSetLemmas.{tied_is, tied_same}
 use Rattle.cs_trigram.specs.Text.{limits, text_trigrams}
 use Rattle.cs_index.specs.Encoding.{Entry, Files, names_of}
-use Rattle.cs_project.specs.Shown.{is_binary}
+use Rattle.cs_lines.specs.Shown.{is_binary}
 use Rattle.cs_known.specs.IndexedFiles.{text_known}
 use Rattle.cs_known.specs.Learned.{Run}
-use Rattle.cs_state.specs.Known.{is_old}
+use Rattle.cs_known.specs.Skipped.{is_known_stamp}
+use Rattle.cs_state.specs.Known.{is_old, is_same_stamp}
 use Rattle.cs_state.specs.Others.{other_of}
 use Rattle.cs_state.specs.declared.others.Unindexed.{Unindexed}
 use Rattle.cs_state.specs.declared.others.Unindexed.TheVariants.{Apart, Binary}
-use Rattle.cs_update.specs.Contents.{Content, item_content, text, text_content, unindexed}
+use Rattle.cs_update.specs.Contents.{Content, content_of, item_content, seen_content, sized_content, text, text_content, unindexed}
 use Rattle.cs_update.specs.Learning.{LearnedFile, Seen, all_learned, entry_in, learned_as, other_files, other_in, stamp_in, text_entries, text_stamps}
 use Rattle.cs_update.specs.MergedLists.{Stamped}
 use Rattle.cs_update.specs.Updates.{IsReadAnew}
 use Rattle.cs_update.proofs.MergedLemmas.{AreUp, each_named, more_above}
+
+-- ---- stamps
+
+same_stamp : (a b : Stamp) → is_same_stamp a b ≡ true → a ≡ b
+same_stamp a b h =
+    let p = and_parts _ _ h in
+    let q = and_parts _ _ p.0 in
+    let r = and_parts _ _ q.0 in
+    let t = and_parts _ _ r.0 in
+    λ i. record {
+      device = eqb-true a.device b.device t.0 i;
+      inode = eqb-true a.inode b.inode t.1 i;
+      size = eqb-true a.size b.size r.1 i;
+      modified = eqb-true a.modified b.modified q.1 i;
+      changed = eqb-true a.changed b.changed p.1 i;
+    }
+
+known_stamp : (known : Stamp) (now : Option Stamp) → is_known_stamp known now ≡ true → now ≡ Some known
+known_stamp known None h = absurd (true≢false (sym h))
+known_stamp known (Some now) h = ap (λ (s : Stamp). Some s) (sym (same_stamp known now h))
 
 -- ---- contents
 
@@ -48,50 +69,91 @@ text_of : (set : Option (List ℕ)) (trigrams : List ℕ) → Some (text_content
 text_of None trigrams is = absurd (false≢true (ap is_text is))
 text_of (Some found) trigrams is = ap (λ c. Some (some_text c)) is
 
-pub text_read : (item : Item) (trigrams : List ℕ) → item_content item ≡ Some (text trigrams) →
-    read_item (text_trigrams limits) item ≡ Some trigrams
-text_read (file bytes) trigrams is = by_test (is_binary bytes) is
-  where
-    by_test : (b : Bool) → Some (if b then unindexed Binary else text_content (text_trigrams limits bytes)) ≡ Some (text trigrams) →
-        text_trigrams limits bytes ≡ Some trigrams
-    by_test true e = absurd (false≢true (ap is_text e))
-    by_test false e = text_of (text_trigrams limits bytes) trigrams e
-text_read item trigrams is = cc
+-- the item is a file of these bytes, whose content is this one
+abbrev IsFileOf : Item → Content → Type 0
+IsFileOf item content = (bytes : List ℕ) × (item ≡ file bytes) × (content_of bytes ≡ content)
 
-binary_read : (item : Item) → item_content item ≡ Some (unindexed Binary) → (bytes : List ℕ) × (item ≡ file bytes) × (is_binary bytes ≡ true)
-binary_read (file bytes) is = (bytes, refl, by_test (is_binary bytes) refl is)
+sized_read : (size : ℕ) (item : Item) (content : Content) → read_item (λ bytes. Some (sized_content size bytes)) item ≡ Some content →
+    (content ≡ unindexed Apart) ⊎ IsFileOf item content
+sized_read size (file bytes) content is = by_length (nat_eq (length bytes) size) is
+  where
+    by_length : (b : Bool) → Some (if b then content_of bytes else unindexed Apart) ≡ Some content →
+        (content ≡ unindexed Apart) ⊎ IsFileOf (file bytes) content
+    by_length true e = inr (bytes, refl, ap (λ o. unwrap_or o content) e)
+    by_length false e = inl (sym (ap (λ o. unwrap_or o content) e))
+sized_read size item content is = cc
+
+-- what was seen of a file has its stamp, and is the content of its bytes, or apart
+pub seen_read : (seen : Stamp) (now : Option Stamp) (item : Item) (content : Content) → seen_content seen now item ≡ Some content →
+    (now ≡ Some seen) × ((content ≡ unindexed Apart) ⊎ IsFileOf item content)
+seen_read seen now item content is = by_stamp (is_known_stamp seen now) refl is
+  where
+    by_size : (b : Bool) → (if b then None else read_item (λ bytes. Some (sized_content seen.size bytes)) item) ≡ Some content →
+        (content ≡ unindexed Apart) ⊎ IsFileOf item content
+    by_size true e = cc
+    by_size false e = sized_read seen.size item content e
+
+    by_stamp : (b : Bool) → is_known_stamp seen now ≡ b → (if b then item_content seen.size item else None) ≡ Some content →
+        (now ≡ Some seen) × ((content ≡ unindexed Apart) ⊎ IsFileOf item content)
+    by_stamp true same e = (known_stamp seen now same, by_size (nat_eq seen.size 0) e)
+    by_stamp false same e = cc
+
+pub text_read : (seen : Stamp) (now : Option Stamp) (item : Item) (trigrams : List ℕ) → seen_content seen now item ≡ Some (text trigrams) →
+    read_item (text_trigrams limits) item ≡ Some trigrams
+text_read seen now item trigrams is = by_side (seen_read seen now item (text trigrams) is).1
+  where
+    by_test : (bytes : List ℕ) (b : Bool) → (if b then unindexed Binary else text_content (text_trigrams limits bytes)) ≡ text trigrams →
+        text_trigrams limits bytes ≡ Some trigrams
+    by_test bytes true e = absurd (false≢true (ap (λ c. is_text (Some c)) e))
+    by_test bytes false e = text_of (text_trigrams limits bytes) trigrams (ap Some e)
+
+    by_side : (text trigrams ≡ unindexed Apart) ⊎ IsFileOf item (text trigrams) → read_item (text_trigrams limits) item ≡ Some trigrams
+    by_side (inl apart) = absurd (true≢false (ap (λ c. is_text (Some c)) apart))
+    by_side (inr read) = ap (read_item (text_trigrams limits)) read.1 ∙ by_test read.0 (is_binary read.0) read.2
+
+binary_read : (seen : Stamp) (now : Option Stamp) (item : Item) → seen_content seen now item ≡ Some (unindexed Binary) →
+    (bytes : List ℕ) × (item ≡ file bytes) × (is_binary bytes ≡ true)
+binary_read seen now item is = by_side (seen_read seen now item (unindexed Binary) is).1
   where
     not_text : (set : Option (List ℕ)) → is_binary_content (Some (text_content set)) ≡ false
     not_text None = refl
     not_text (Some trigrams) = refl
 
-    by_test : (b : Bool) → is_binary bytes ≡ b →
-        Some (if b then unindexed Binary else text_content (text_trigrams limits bytes)) ≡ Some (unindexed Binary) → is_binary bytes ≡ true
-    by_test true e is = e
-    by_test false e is = absurd (true≢false (sym (ap is_binary_content is) ∙ not_text (text_trigrams limits bytes)))
-binary_read item is = cc
+    by_test : (bytes : List ℕ) (b : Bool) → is_binary bytes ≡ b →
+        (if b then unindexed Binary else text_content (text_trigrams limits bytes)) ≡ unindexed Binary → is_binary bytes ≡ true
+    by_test bytes true e is = e
+    by_test bytes false e is = absurd (true≢false (sym (ap (λ c. is_binary_content (Some c)) is) ∙ not_text (text_trigrams limits bytes)))
+
+    by_side : (unindexed Binary ≡ unindexed Apart) ⊎ IsFileOf item (unindexed Binary) →
+        (bytes : List ℕ) × (item ≡ file bytes) × (is_binary bytes ≡ true)
+    by_side (inl apart) = absurd (true≢false (ap (λ c. is_binary_content (Some c)) apart))
+    by_side (inr read) = (read.0, read.1, by_test read.0 (is_binary read.0) refl read.2)
 
 -- ---- files
 
 module _ (run : Run) where
+  -- what the run sees of a file that was seen with a stamp
+  abbrev pub content_at : Seen → Option Content
+  content_at one = seen_content one.1 (run.view.stamp one.0) (run.view.item one.0)
+
   -- the file was seen with this stamp, which was old, and has this content
   pub record IsSeen (one : LearnedFile) : Type 0 where
-    pub stamp : run.view.stamp one.name ≡ Some one.stamp
     pub old : is_old run.moment one.stamp ≡ true
-    pub content : item_content (run.view.item one.name) ≡ Some one.content
+    pub content : content_at (one.name, one.stamp) ≡ Some one.content
 
-  pub all_seen : (seen : List Seen) → AllByRecursion (λ (one : Seen). run.view.stamp one.0 ≡ Some one.1) seen →
-      AllByRecursion IsSeen (all_learned run.view.item run.moment seen)
-  all_seen [] all = tt
-  all_seen (one ∷ seen) all =
-      by_age (is_old run.moment one.1) (item_content (run.view.item one.0)) refl refl (all_seen seen all.1)
+  pub all_seen : (seen : List Seen) → AllByRecursion IsSeen (all_learned run seen)
+  all_seen [] = tt
+  all_seen (one ∷ seen) = by_age (is_old run.moment one.1) (content_at one) refl refl (all_seen seen)
     where
-      by_age : (b : Bool) (content : Option Content) → is_old run.moment one.1 ≡ b → item_content (run.view.item one.0) ≡ content →
-          AllByRecursion IsSeen (all_learned run.view.item run.moment seen) →
-          AllByRecursion IsSeen (cons_option (if b then option_map (learned_as one) content else None) (all_learned run.view.item run.moment seen))
+      by_age : (b : Bool) (content : Option Content) → is_old run.moment one.1 ≡ b → content_at one ≡ content →
+          AllByRecursion IsSeen (all_learned run seen) →
+          AllByRecursion IsSeen (cons_option (if b then option_map (learned_as one) content else None) (all_learned run seen))
       by_age true None e c more = more
-      by_age true (Some content) e c more = (record { stamp = all.0; old = e; content = c }, more)
+      by_age true (Some content) e c more = (record { old = e; content = c }, more)
       by_age false content e c more = more
+
+  stamp_seen : (one : LearnedFile) → IsSeen one → run.view.stamp one.name ≡ Some one.stamp
+  stamp_seen one seen = (seen_read one.stamp (run.view.stamp one.name) (run.view.item one.name) one.content seen.content).0
 
   module _ (own : Files) where
     -- the own index has the trigrams of a text
@@ -101,18 +163,26 @@ module _ (run : Run) where
     text_anew : (name trigrams : List ℕ) (stamp : Stamp) → IsSeen (record { name = name; stamp = stamp; content = text trigrams }) →
         map'.get own name ≡ Some trigrams → IsReadAnew run own (text_known name stamp)
     text_anew name trigrams stamp seen has = record {
-      stamp = seen.stamp;
+      stamp = stamp_seen (record { name = name; stamp = stamp; content = text trigrams }) seen;
       old = seen.old;
       read = (
         subst IsSome (sym has) refl,
-        text_read (run.view.item name) trigrams seen.content ∙ sym has,
+        text_read stamp (run.view.stamp name) (run.view.item name) trigrams seen.content ∙ sym has,
       );
     }
 
     other_anew : (name : List ℕ) (stamp : Stamp) (kept : Unindexed) →
         IsSeen (record { name = name; stamp = stamp; content = unindexed kept }) → IsReadAnew run own (other_of name kept stamp)
-    other_anew name stamp Binary seen = record { stamp = seen.stamp; old = seen.old; read = binary_read (run.view.item name) seen.content }
-    other_anew name stamp Apart seen = record { stamp = seen.stamp; old = seen.old; read = tt }
+    other_anew name stamp Binary seen = record {
+      stamp = stamp_seen (record { name = name; stamp = stamp; content = unindexed Binary }) seen;
+      old = seen.old;
+      read = binary_read stamp (run.view.stamp name) (run.view.item name) seen.content;
+    }
+    other_anew name stamp Apart seen = record {
+      stamp = stamp_seen (record { name = name; stamp = stamp; content = unindexed Apart }) seen;
+      old = seen.old;
+      read = tt;
+    }
 
     abbrev IsStampedAnew : Stamped → Type 0
     IsStampedAnew one = IsReadAnew run own (text_known one.0 one.1)

@@ -18,18 +18,18 @@ use Rattle.cs_known.specs.Learned.{ReadsAs, Run}
 use Rattle.cs_merge.specs.Join.{joined_entries, joined_files}
 use Rattle.cs_merge.proofs.DecodedContentLemmas.{find_all}
 use Rattle.cs_state.specs.Known.{IsListed, Kept, Known, ProjectState, apart, binary, indexed, is_old}
-use Rattle.cs_update.specs.Contents.{Content, item_content, text, unindexed}
+use Rattle.cs_update.specs.Contents.{Content, text, unindexed}
 use Rattle.cs_update.specs.JoinedStates.{FirstStatesJoin, IsFirstOf, known_in, parts_of}
 use Rattle.cs_update.specs.Learning.{LearnedFile, Seen, all_learned, entry_in, learned_as, learned_if_old, text_entries}
 use Rattle.cs_update.specs.Updates.{IsReadAnew, StaysKnown}
 use Rattle.cs_update.specs.Updating.{no_state, own_files, root_paths}
-use Rattle.cs_update.proofs.AnewLemmas.{text_read}
+use Rattle.cs_update.proofs.AnewLemmas.{content_at, text_read}
 use Rattle.cs_update.proofs.StateLemmas.{merge_nothing}
 
 module _ (run : Run) where
   -- the texts that the run learned
   abbrev entries : List Seen → List Entry
-  entries seen = text_entries (all_learned run.view.item run.moment seen)
+  entries seen = text_entries (all_learned run seen)
 
   abbrev found : List Seen → List ℕ → Option (List ℕ)
   found seen name = find bytes_cmp name (entries seen)
@@ -42,34 +42,34 @@ module _ (run : Run) where
 
   entries_both : (one more : List Seen) → entries (one ++ more) ≡ entries one ++ entries more
   entries_both one more =
-      ap text_entries (filter_map-append (learned_if_old run.view.item run.moment) one more)
-      ∙ filter_map-append (λ (file : LearnedFile). entry_in file.name file.content) (all_learned run.view.item run.moment one)
-      (all_learned run.view.item run.moment more)
+      ap text_entries (filter_map-append (learned_if_old run) one more)
+      ∙ filter_map-append (λ (file : LearnedFile). entry_in file.name file.content) (all_learned run one)
+      (all_learned run more)
 
   found_both : (one more : List Seen) (name : List ℕ) → found (one ++ more) name ≡ option_or (found one name) (found more name)
   found_both one more name = ap (find bytes_cmp name) (entries_both one more) ∙ find-append name (entries one) (entries more)
 
   -- ---- a text that was learned reads as it was learned
 
-  each_text : (seen : List Seen) → AllByRecursion (λ (e : Entry). item_content (run.view.item e.0) ≡ Some (text e.1)) (entries seen)
+  abbrev ReadsText : List ℕ → List ℕ → Type 0
+  ReadsText name trigrams = read_item (text_trigrams limits) (run.view.item name) ≡ Some trigrams
+
+  each_text : (seen : List Seen) → AllByRecursion (λ (e : Entry). ReadsText e.0 e.1) (entries seen)
   each_text [] = tt
-  each_text (one ∷ seen) =
-      by_age (is_old run.moment one.1) (item_content (run.view.item one.0)) refl (each_text seen)
+  each_text (one ∷ seen) = by_age (is_old run.moment one.1) (content_at run one) refl (each_text seen)
     where
-      by_age : (b : Bool) (content : Option Content) → item_content (run.view.item one.0) ≡ content →
-          AllByRecursion (λ (e : Entry). item_content (run.view.item e.0) ≡ Some (text e.1)) (entries seen) →
-          AllByRecursion (λ (e : Entry). item_content (run.view.item e.0) ≡ Some (text e.1))
-          (text_entries (cons_option (if b then option_map (learned_as one) content else None) (all_learned run.view.item run.moment seen)))
+      by_age : (b : Bool) (content : Option Content) → content_at run one ≡ content →
+          AllByRecursion (λ (e : Entry). ReadsText e.0 e.1) (entries seen) →
+          AllByRecursion (λ (e : Entry). ReadsText e.0 e.1)
+          (text_entries (cons_option (if b then option_map (learned_as one) content else None) (all_learned run seen)))
       by_age true None e more = more
-      by_age true (Some (text trigrams)) e more = (e, more)
+      by_age true (Some (text trigrams)) e more =
+          (text_read one.1 (run.view.stamp one.0) (run.view.item one.0) trigrams e, more)
       by_age true (Some (unindexed kept)) e more = more
       by_age false content e more = more
 
-  reads_text : (seen : List Seen) (name trigrams : List ℕ) → found seen name ≡ Some trigrams →
-      read_item (text_trigrams limits) (run.view.item name) ≡ Some trigrams
-  reads_text seen name trigrams is =
-      text_read (run.view.item name) trigrams
-      (find_all (λ (n : List ℕ) (t : List ℕ). item_content (run.view.item n) ≡ Some (text t)) (entries seen) name trigrams (each_text seen) is)
+  reads_text : (seen : List Seen) (name trigrams : List ℕ) → found seen name ≡ Some trigrams → ReadsText name trigrams
+  reads_text seen name trigrams is = find_all ReadsText (entries seen) name trigrams (each_text seen) is
 
   -- ---- what is known of some files is known of more files
 

@@ -10,7 +10,6 @@ use Rattle.cs_tree.specs.Cover.{covers, is_absolute, is_covered}
 use Rattle.cs_tree.specs.NameOrder.{bytes_cmp}
 use Rattle.cs_tree.specs.NamesAscending.{are_ascending}
 use Rattle.cs_tree.specs.PathSet.{Paths}
-use Rattle.cs_tree.specs.Snapshot.{Snapshot}
 use Rattle.cs_tree.specs.declared.tree.Stamp.{Stamp}
 use Rattle.cs_tree.proofs.PathSetLemmas.{entries_in_order, items_in_order}
 use Rattle.cs_trigram.specs.TrigramSets.{IsTrigramSet}
@@ -30,11 +29,11 @@ use Rattle.cs_state.specs.ProjectStates.{IsOther}
 use Rattle.cs_state.specs.declared.others.Unindexed.{Unindexed}
 use Rattle.cs_state.specs.declared.others.Unindexed.TheVariants.{Apart, Binary}
 use Rattle.cs_update.specs.Contents.{Content, text, unindexed}
-use Rattle.cs_update.specs.Learning.{HasLearned, IsProjectName, LearnedFile, Seen, all_learned, entry_in, items_below, other_files, other_in, stamp_in, text_entries, text_stamps}
+use Rattle.cs_update.specs.Learning.{HasLearned, IsProjectName, LearnedFile, Seen, all_learned, entry_in, other_files, other_in, stamp_in, text_entries, text_stamps}
 use Rattle.cs_update.specs.MergedLists.{Stamped, merged, stamps_in, uncovered}
 use Rattle.cs_update.specs.OldTexts.{IsOtherOf}
 use Rattle.cs_update.specs.Updates.{IsReadAnew, StaysKnown}
-use Rattle.cs_update.specs.Updating.{IsFirstState, IsUpdateOf, Saw, no_state, own_files, root_paths}
+use Rattle.cs_update.specs.Updating.{IsFirstState, IsUpdateOf, no_state, own_files, root_paths}
 use Rattle.cs_update.specs.Written.{AreStateBytes, IsMergedState, IsWritten}
 use Rattle.cs_update.specs.declared.learned.Learned.{Learned}
 use Rattle.cs_update.proofs.AnewLemmas.{all_seen, got_each, have_entries, others_anew, texts_anew, up_named}
@@ -124,18 +123,9 @@ all_inr : {X : Type 0} (P Q : X → Type 0) (xs : List X) → AllByRecursion Q x
 all_inr P Q [] all = tt
 all_inr P Q (x ∷ xs) all = (inr all.0, all_inr P Q xs all.1)
 
--- what was learned, as the run saw it
-pub learned_by : (items : Snapshot) (root : List ℕ) (moment : ℕ) (seen : List Seen) (run : Run) (learned : Learned) →
-    Saw items root moment seen run → HasLearned learned (all_learned (items_below items root) moment seen) →
-    HasLearned learned (all_learned run.view.item run.moment seen)
-learned_by items root moment seen run learned saw has =
-    subst (λ m. HasLearned learned (all_learned run.view.item m seen)) (sym saw.moment_is)
-    (subst (λ i. HasLearned learned (all_learned i moment seen)) (sym saw.item) has)
-
-module _ (run : Run) (seen : List Seen) (saw : AllByRecursion (λ (one : Seen). run.view.stamp one.0 ≡ Some one.1) seen)
-    (learned : Learned) (has : HasLearned learned (all_learned run.view.item run.moment seen)) where
+module _ (run : Run) (seen : List Seen) (learned : Learned) (has : HasLearned learned (all_learned run seen)) where
   abbrev files : List LearnedFile
-  files = all_learned run.view.item run.moment seen
+  files = all_learned run seen
 
   abbrev own : Files
   own = own_files run seen
@@ -144,7 +134,7 @@ module _ (run : Run) (seen : List Seen) (saw : AllByRecursion (λ (one : Seen). 
   pairs = zip (names_of (text_entries files)) (text_stamps files)
 
   texts_are : IsBuilt learned.texts → AllByRecursion (λ (one : Stamped). IsReadAnew run own (text_known one.0 one.1)) pairs
-  texts_are built = texts_anew run own files (all_seen run seen saw) (have_entries run own files (got_each (text_entries files)
+  texts_are built = texts_anew run own files (all_seen run seen) (have_entries run own files (got_each (text_entries files)
       (ap (λ es. are_ascending (names_of es)) (sym has.texts) ∙ built.ascend)))
 
   pub first_of : learned.texts.paths ≡ (slash ∷ []) ∷ [] → (bytes : List ℕ) → IsWritten learned bytes → IsFirstState run seen bytes
@@ -160,7 +150,7 @@ module _ (run : Run) (seen : List Seen) (saw : AllByRecursion (λ (one : Seen). 
       ∙ sym (zip_names (names_of (text_entries files)) (text_stamps files) (as_many files)))
       (all_inr (λ (one : Stamped). StaysKnown root_paths no_state.known (text_known one.0 one.1))
       (λ (one : Stamped). IsReadAnew run own (text_known one.0 one.1)) pairs (texts_are built))
-      (all_inr (StaysKnown root_paths no_state.known) (IsReadAnew run own) (other_files files) (others_anew run own files (all_seen run seen saw)))
+      (all_inr (StaysKnown root_paths no_state.known) (IsReadAnew run own) (other_files files) (others_anew run own files (all_seen run seen)))
       (entries_under root_paths (text_entries files) (texts_absolute files has.names))
       (subst (λ s. AreStateBytes index s (other_files files) bytes)
       (has.stamps ∙ sym (zip_values (names_of (text_entries files)) (text_stamps files) (as_many files)))
@@ -209,7 +199,7 @@ module _ (run : Run) (seen : List Seen) (saw : AllByRecursion (λ (one : Seen). 
       by_side : (one : Known) → IsOtherOf (path_set learned.texts) old.known (other_files files) one →
           IsOfUpdate run (path_set learned.texts) own old.known one
       by_side one (inl stays) = inl stays
-      by_side one (inr listed) = inr (one_of (IsReadAnew run own) one (other_files files) (others_anew run own files (all_seen run seen saw)) listed)
+      by_side one (inr listed) = inr (one_of (IsReadAnew run own) one (other_files files) (others_anew run own files (all_seen run seen)) listed)
 
       each_other : (others : List Known) → AllByRecursion (IsOtherOf (path_set learned.texts) old.known (other_files files)) others →
           AllByRecursion (IsOfUpdate run (path_set learned.texts) own old.known) others

@@ -8,7 +8,6 @@ use Rattle.std.proofs.lemmas.List.Elements.{filter_map-append}
 use Rattle.std.proofs.lemmas.Bool.{true≢false}
 use Rattle.cs_tree.specs.Cover.{is_absolute}
 use Rattle.cs_tree.specs.Elements.{has_nul}
-use Rattle.cs_tree.specs.Snapshot.{Item}
 use Rattle.cs_tree.specs.declared.tree.Stamp.{Stamp}
 use Rattle.cs_index.specs.Encoding.{Entry}
 use Rattle.cs_state.specs.Known.{Known}
@@ -19,6 +18,7 @@ use Rattle.cs_state.specs.declared.others.Unindexed.{Unindexed}
 use Rattle.cs_update.specs.Contents.{text, unindexed}
 use Rattle.cs_update.specs.Learning.{HasLearned, IsProjectName, LearnedFile, Seen, all_learned, entry_in, learned_as, learned_if_old, other_files, other_in, stamp_in, text_entries, text_stamps, seen_of}
 use Rattle.cs_update.specs.declared.learned.Learned.{Learned}
+use Rattle.cs_known.specs.Learned.{Run}
 use Rattle.cs_known.specs.declared.seen.SeenFile.{SeenFile}
 
 abbrev file_entry : LearnedFile → Option Entry
@@ -95,17 +95,16 @@ last_one : {Y : Type 0} (o : Option Y) → cons_option o [] ≡ option_to_list o
 last_one None = refl
 last_one (Some y) = refl
 
-pub learned_next : (items : List ℕ → Item) (moment : ℕ) (files : List SeenFile) (at : ℕ) (file : SeenFile) → at < length files →
-    file ≡ get_or files at file →
-    all_learned items moment (map seen_of (take at files)) ++ option_to_list (learned_if_old items moment (seen_of file))
-    ≡ all_learned items moment (map seen_of (take (at + 1) files))
-learned_next items moment files at file low is =
+pub learned_next : (run : Run) (files : List SeenFile) (at : ℕ) (file : SeenFile) → at < length files → file ≡ get_or files at file →
+    all_learned run (map seen_of (take at files)) ++ option_to_list (learned_if_old run (seen_of file))
+    ≡ all_learned run (map seen_of (take (at + 1) files))
+learned_next run files at file low is =
     let seen = map seen_of (take at files) in
-    let learned = learned_if_old items moment in
+    let learned = learned_if_old run in
     let more : map seen_of (take (at + 1) files) ≡ seen ++ seen_of file ∷ [] =
     ap (map seen_of) (take_more files at file low ∙ ap (λ y. take at files ++ y ∷ []) (sym is)) ∙ map-append seen_of (take at files) (file ∷ []) in
-    ap (λ l. all_learned items moment seen ++ l) (sym (last_one (learned (seen_of file))))
-    ∙ sym (filter_map-append learned seen (seen_of file ∷ [])) ∙ sym (ap (all_learned items moment) more)
+    ap (λ l. all_learned run seen ++ l) (sym (last_one (learned (seen_of file))))
+    ∙ sym (filter_map-append learned seen (seen_of file ∷ [])) ∙ sym (ap (all_learned run) more)
 
 -- ---- names
 

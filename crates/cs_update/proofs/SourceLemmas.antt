@@ -1,11 +1,11 @@
--- Reads of a source that is watched for a NUL.
-use Rattle.std.proofs.Common.{◌≡◌, ◌≤◌, ◌-◌, min, arith, append_assoc, ◌||◌, ◌++◌, [], ◌∷◌, zero, suc, ℕ, Bool, true, false, List, Option, None, Some, length, take, refl, sym, ap, ◌∙◌, nat_eq, option_map, is_some}
+-- Reads of a source that is watched for a NUL and counted.
+use Rattle.std.proofs.Common.{◌≡◌, ◌≤◌, ◌-◌, min, arith, append_assoc, ◌||◌, ◌++◌, [], ◌∷◌, zero, suc, ℕ, Bool, true, false, List, Option, None, Some, length, take, refl, sym, ap, ◌∙◌, nat_eq, option_map, is_some, ◌+◌}
 use Rattle.std.proofs.lemmas.Bool.{false≢true}
-use Rattle.std.proofs.lemmas.List.{length-take, take_all, take_min}
+use Rattle.std.proofs.lemmas.List.{length-append, length-take, take_all, take_min}
 use Rattle.cs_tree.specs.StreamModels.{SourceModel}
 use Rattle.cs_tree.specs.Transfers.{Consumes}
-use Rattle.cs_project.specs.Shown.{is_binary}
-use Rattle.cs_update.specs.Reads.{has_nul}
+use Rattle.cs_lines.specs.Shown.{is_binary}
+use Rattle.cs_update.specs.Reads.{has_nul, is_missing}
 
 pub take_none : (n : ℕ) → take {A = ℕ} n [] ≡ []
 take_none zero = refl
@@ -51,6 +51,20 @@ nul_kept (Some source) (Some rest) bytes left less seen now found read fewer mor
     ∙ ap Some (or_assoc seen (has_nul (take left bytes)) (has_nul (take (left - length bytes) rest.bytes)))
     ∙ ap (λ both. Some (seen || both)) (sym (first_of_both left bytes rest.bytes))
     ∙ ap (λ all. Some (seen || has_nul (take left all))) (sym read.0) ∙ is
+
+-- ---- the number of bytes
+
+abbrev pub expected : Option ℕ → Option SourceModel → Option Bool
+expected missing model = option_map (λ (source : SourceModel). is_missing missing (length source.bytes)) model
+
+pub count_kept : (model later : Option SourceModel) (bytes : List ℕ) (missing now : Option ℕ) (found : Bool) → Consumes model later bytes →
+    ((rest : ℕ) → is_missing now rest ≡ is_missing missing (length bytes + rest)) →
+    expected missing model ≡ Some found → expected now later ≡ Some found
+count_kept None later bytes missing now found read fewer is = absurd (false≢true (ap is_some is))
+count_kept (Some source) None bytes missing now found read fewer is = absurd read
+count_kept (Some source) (Some rest) bytes missing now found read fewer is =
+    ap Some (fewer (length rest.bytes))
+    ∙ ap (λ n. Some (is_missing missing n)) (sym (length-append bytes rest.bytes) ∙ sym (ap length read.0)) ∙ is
 
 -- ---- reads one after another
 

@@ -2,7 +2,6 @@
 pub use Rattle.cs_index.specs.Encoding.{names_of}
 pub use Rattle.cs_index.specs.OpenedParts.{Parts}
 pub use Rattle.cs_index.specs.Tables.{TablesIn}
-pub use Rattle.cs_known.specs.Learned.{Run}
 pub use Rattle.cs_known.specs.OtherFiles.{HasLeft}
 pub use Rattle.cs_merge.specs.Join.{IsJoined, joined_names}
 pub use Rattle.cs_merge.specs.Joining.{IsStoredPart}
@@ -17,12 +16,12 @@ pub use Rattle.cs_tree.specs.NamesAscending.{are_ascending}
 pub use Rattle.cs_tree.specs.Snapshot.{Snapshot, item_at}
 pub use Rattle.cs_trigram.specs.Scans.{AreDistinctTrigrams}
 pub use Rattle.cs_trigram.specs.Trigram.{set_of_numbers}
-pub use Rattle.cs_update.specs.Contents.{found_content, has_distinct, item_content, text, unindexed}
+pub use Rattle.cs_update.specs.Contents.{found_content, has_distinct, seen_content, text, unindexed}
 pub use Rattle.cs_update.specs.JoinedStates.{AreKnownStamps, AreOpen, IsBodyOf, IsJoinedState, KeepsBody, known_in, parts_of}
-pub use Rattle.cs_update.specs.Learning.{HasLearned, IsProjectName, LearnedFile, all_learned, items_below, learned_if_old, seen_of, with_learned}
+pub use Rattle.cs_update.specs.Learning.{HasLearned, IsProjectName, LearnedFile, all_learned, learned_if_old, run_of, seen_by, seen_of, with_learned}
 pub use Rattle.cs_update.specs.MergedLists.{after, before, merged, own_left, stamps_in, uncovered}
 pub use Rattle.cs_update.specs.NewStates.{HasBegun, HasOthersOf}
 pub use Rattle.cs_update.specs.OldTexts.{HasStamps, IsOpenState, IsOtherOf}
-pub use Rattle.cs_update.specs.Reads.{IsFoundIn, IsReadToEnd}
-pub use Rattle.cs_update.specs.Updating.{IsFirstState, IsUpdatedState, SawFiles, paths_seen, seen_by}
+pub use Rattle.cs_update.specs.Reads.{HasOpened, IsFoundIn, IsReadToEnd}
+pub use Rattle.cs_update.specs.Updating.{IsFirstState, IsUpdatedState, paths_seen}
 pub use Rattle.cs_update.specs.Written.{IsMergedState, IsWritten}

@@ -1,11 +1,13 @@
--- What a run learns of a file from its bytes.
-use Rattle.std.specs.Prelude.{ℕ, if◌then◌else◌, List, Option, Some, None}
+-- What a run learns of a file from its bytes and its stamp.
+use Rattle.std.specs.Prelude.{ℕ, nat_eq, if◌then◌else◌, List, length, Option, Some, None}
 use Rattle.cs_tree.specs.Reachability.{read_item}
 use Rattle.cs_tree.specs.Snapshot.{Item}
+use Rattle.cs_tree.specs.declared.tree.Stamp.{Stamp}
 use Rattle.cs_trigram.specs.Scans.{AreDistinctTrigrams}
 use Rattle.cs_trigram.specs.Text.{text_trigrams, limits}
 use Rattle.cs_trigram.specs.Trigram.{set_of_numbers}
-use Rattle.cs_project.specs.Shown.{is_binary}
+use Rattle.cs_lines.specs.Shown.{is_binary}
+use Rattle.cs_known.specs.Skipped.{is_known_stamp}
 use Rattle.cs_state.specs.declared.others.Unindexed.{Unindexed}
 use Rattle.cs_state.specs.declared.others.Unindexed.TheVariants.{Binary, Apart}
 use Rattle.cs_update.specs.declared.found.Found.{Found}
@@ -24,9 +26,18 @@ text_content None = unindexed Apart
 abbrev pub content_of : List ℕ → Content
 content_of bytes = if is_binary bytes then unindexed Binary else text_content (text_trigrams limits bytes)
 
--- that of a file which can be read to its end
-abbrev pub item_content : Item → Option Content
-item_content item = read_item (λ bytes. Some (content_of bytes)) item
+-- That of a file which has not as many bytes as its stamp says is not learned: it is apart, and each search reads it. A file of
+-- /sys says that it has a page, and another one may be written while it is read.
+abbrev pub sized_content : ℕ → List ℕ → Content
+sized_content size bytes = if nat_eq (length bytes) size then content_of bytes else unindexed Apart
+
+-- That of a file of this size which can be read to its end. An empty one has none: so files of /proc look, and they have bytes.
+abbrev pub item_content : ℕ → Item → Option Content
+item_content size item = if nat_eq size 0 then None else read_item (λ bytes. Some (sized_content size bytes)) item
+
+-- that of a file which was seen with a stamp, and still has it when it is read
+abbrev pub seen_content : Stamp → Option Stamp → Item → Option Content
+seen_content seen now item = if is_known_stamp seen now then item_content seen.size item else None
 
 -- ---- what is found
 

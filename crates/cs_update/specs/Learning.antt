@@ -1,15 +1,18 @@
--- What a run learns of the files that it has seen, by the items of the project at their names.
+-- What a run learns of the files that it has seen, by the items and the stamps of the project at their names.
 use Rattle.std.specs.Prelude.{◌≡◌, ℕ, true, if◌then◌else◌, List, [], ◌∷◌, ◌++◌, map, Option, Some, None, option_map, filter_map, string_bytes}
 use Rattle.std.specs.List.{AllByRecursion}
-use Rattle.cs_tree.specs.Snapshot.{Item, Snapshot, item_at}
+use Rattle.cs_tree.specs.Snapshot.{Snapshot, item_at}
 use Rattle.cs_tree.specs.declared.tree.Stamp.{Stamp}
 use Rattle.cs_tree.specs.Cover.{is_absolute}
 use Rattle.cs_index.specs.Encoding.{Entry, IsString}
 use Rattle.cs_state.specs.Known.{Known, is_old}
 use Rattle.cs_state.specs.Others.{other_of}
 use Rattle.cs_state.specs.OtherReaders.{known_of}
-use Rattle.cs_update.specs.Contents.{Content, text, unindexed, item_content}
+use Rattle.cs_known.specs.Learned.{Run}
+use Rattle.cs_known.specs.Unprinted.{view_below}
 use Rattle.cs_known.specs.declared.seen.SeenFile.{SeenFile}
+use Rattle.cs_update.specs.Contents.{Content, text, unindexed, seen_content}
+use Rattle.cs_update.specs.declared.call.UpdateCall.{UpdateCall}
 use Rattle.cs_update.specs.declared.learned.Learned.{Learned}
 
 -- ---- files that are seen
@@ -20,6 +23,13 @@ Seen = List ℕ × Stamp
 
 abbrev pub seen_of : SeenFile → Seen
 seen_of file = (string_bytes file.name, file.stamp)
+
+abbrev pub seen_by : UpdateCall → List Seen
+seen_by call = map seen_of call.files.now
+
+-- the run of a call over a tree with these items and stamps
+abbrev pub run_of : UpdateCall → Snapshot → (List ℕ → Option Stamp) → Run
+run_of call items stamps = record { view = view_below call.root.now (item_at items) stamps; moment = call.moment }
 
 -- ---- what is learned
 
@@ -35,15 +45,12 @@ learned_as seen content = record { name = seen.0; stamp = seen.1; content = cont
 abbrev pub with_learned : List LearnedFile → SeenFile → Content → List LearnedFile
 with_learned files file content = files ++ learned_as (seen_of file) content ∷ []
 
--- the items at the names of a project, whose root has this path
-abbrev pub items_below : Snapshot → List ℕ → List ℕ → Item
-items_below items root name = item_at items (root ++ name)
-
-module _ (items : List ℕ → Item) (moment : ℕ) where
-  -- a file with an old stamp that can be read to its end
+module _ (run : Run) where
+  -- a file whose stamp is old and still the same, and that can be read to its end
   abbrev pub learned_if_old : Seen → Option LearnedFile
   learned_if_old seen =
-      if is_old moment seen.1 then option_map (learned_as seen) (item_content (items seen.0)) else None
+      if is_old run.moment seen.1
+      then option_map (learned_as seen) (seen_content seen.1 (run.view.stamp seen.0) (run.view.item seen.0)) else None
 
   abbrev pub all_learned : List Seen → List LearnedFile
   all_learned seen = filter_map learned_if_old seen

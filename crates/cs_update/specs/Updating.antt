@@ -1,31 +1,16 @@
 -- The bytes that a run leaves as the state of a project: an update of an earlier state, or a first one.
-use Rattle.std.specs.Prelude.{◌≡◌, ℕ, List, [], ◌∷◌, map, Some}
+use Rattle.std.specs.Prelude.{ℕ, List, [], ◌∷◌, map}
 use Rattle.std.specs.FinMap as map'
-use Rattle.std.specs.List.{AllByRecursion}
 use Rattle.std.specs.Path.{slash}
 use Rattle.cs_tree.specs.Cover.{least}
 use Rattle.cs_tree.specs.PathSet.{Paths}
 use Rattle.cs_tree.specs.PathSet as set
-use Rattle.cs_tree.specs.Snapshot.{Snapshot}
 use Rattle.cs_index.specs.Encoding.{Files}
 use Rattle.cs_known.specs.Learned.{Run}
 use Rattle.cs_state.specs.Known.{ProjectState}
 use Rattle.cs_state.specs.ProjectStates.{IsState}
-use Rattle.cs_update.specs.Learning.{Seen, all_learned, items_below, seen_of, text_entries}
+use Rattle.cs_update.specs.Learning.{Seen, all_learned, text_entries}
 use Rattle.cs_update.specs.Updates.{Updates}
-use Rattle.cs_update.specs.declared.call.UpdateCall.{UpdateCall}
-
--- A run saw the items of a tree below a root, at this moment these files with their stamps.
-pub record Saw (items : Snapshot) (root : List ℕ) (moment : ℕ) (seen : List Seen) (run : Run) : Type 0 where
-  pub item : run.view.item ≡ items_below items root
-  pub moment_is : run.moment ≡ moment
-  pub stamps : AllByRecursion (λ (one : Seen). run.view.stamp one.0 ≡ Some one.1) seen
-
-abbrev pub seen_by : UpdateCall → List Seen
-seen_by call = map seen_of call.files.now
-
-abbrev pub SawFiles : Snapshot → UpdateCall → Run → Type 0
-SawFiles items call run = Saw items call.root.now call.moment (seen_by call) run
 
 -- the names that were seen, without those that another one covers
 abbrev pub paths_seen : List Seen → Paths
@@ -33,7 +18,7 @@ paths_seen seen = least (set.from_list (map (λ (one : Seen). one.0) seen))
 
 -- the index of the texts that were learned
 abbrev pub own_files : Run → List Seen → Files
-own_files run seen = map'.from_entries (text_entries (all_learned run.view.item run.moment seen))
+own_files run seen = map'.from_entries (text_entries (all_learned run seen))
 
 -- The bytes are a state that updates the old one by what the run learned of the files that it saw.
 pub record IsUpdateOf (run : Run) (seen : List Seen) (paths : Paths) (old : ProjectState) (bytes : List ℕ) : Type 0 where

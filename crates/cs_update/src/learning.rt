@@ -1,6 +1,6 @@
 // Learning files.
 ghost use Rattle.std.specs.Prelude.{◌≡◌, ◌++◌, List, [], true, IfOk, OnOk, Some, map, option_to_list, string_bytes};
-ghost use Rattle.cs_update.specs.Cited.{Snapshot, AreDistinctTrigrams, set_of_numbers, found_content, has_distinct, text, unindexed, HasLearned, IsProjectName, LearnedFile, all_learned, items_below, learned_if_old, seen_of, with_learned};
+ghost use Rattle.cs_update.specs.Cited.{Snapshot, AreDistinctTrigrams, set_of_numbers, found_content, has_distinct, text, unindexed, HasLearned, IsProjectName, LearnedFile, all_learned, learned_if_old, run_of, seen_by, seen_of, with_learned};
 
 use crate::age::is_old;
 use crate::call::UpdateCall;
@@ -11,25 +11,24 @@ use crate::reading::read_file;
 use cs_index::{BuildFault, Builder};
 use cs_known::SeenFile;
 use cs_state::{OtherFile, Unindexed};
-use cs_tree::{Tree, has_nul, is_absolute};
+use cs_tree::{Look, has_nul, is_absolute};
 use cs_trigram::Scanner;
 use std::alloc::{AllocError, Global};
 
-/// Learns the files with an old stamp that can be read to their end, each read once. The index of
-/// the texts has these paths.
+/// Learns the files whose stamp is old, still the same, and not that of an empty file, and that can
+/// be read to their end, each read once. The index of the texts has these paths.
 ///
 /// # Errors
 ///
 /// `BadName` if a path is none of an index, or if the names do not ascend; `TooLarge` if there are
 /// more texts than an index can have; `Memory` if an allocation fails.
-pub fn learn_files<T: Tree>(
+pub fn learn_files<T: Look>(
     call: &UpdateCall<'_>,
     tree: &mut T,
     paths: &[String],
 ) -> Result<Learned, UpdateFault>
     ensures learned { (items : Snapshot) → T.snapshot tree.old ≡ Some items → IfOk result (λ learned.
-        HasLearned learned (all_learned (items_below items call.now.root.now) call.now.moment
-        (map seen_of call.now.files.now))) }
+        HasLearned learned (all_learned (run_of call.now items (T.stamps items)) (seen_by call.now))) }
     ensures paths { IfOk result (λ learned. learned.texts.paths ≡ map string_bytes paths.now) }
     ensures keeps { T.snapshot tree.new ≡ T.snapshot tree.old }
 {
@@ -42,7 +41,7 @@ pub fn learn_files<T: Tree>(
 }
 
 /// Reads a file, if its stamp is old, and learns it if it can be read to its end.
-fn learn_file<T: Tree>(
+fn learn_file<T: Look>(
     call: &UpdateCall<'_>,
     scanner: &mut Scanner,
     tree: &mut T,
@@ -51,7 +50,7 @@ fn learn_file<T: Tree>(
 ) -> Result<(), UpdateFault>
     ensures learned { (items : Snapshot) → T.snapshot tree.old ≡ Some items →
         (files : List LearnedFile) → HasLearned learned.old files → OnOk result (HasLearned learned.new
-        (files ++ option_to_list (learned_if_old (items_below items call.now.root.now) call.now.moment
+        (files ++ option_to_list (learned_if_old (run_of call.now items (T.stamps items))
         (seen_of file.now)))) }
     ensures paths { learned.new.texts.paths ≡ learned.old.texts.paths }
     ensures keeps { T.snapshot tree.new ≡ T.snapshot tree.old }
@@ -63,7 +62,7 @@ fn learn_file<T: Tree>(
         return Err(UpdateFault::BadName);
     }
     let path = path_below(call.alloc, call.root, file.name.as_str())?;
-    match read_file(scanner, tree, path.as_str())? {
+    match read_file(scanner, tree, path.as_str(), &file.stamp)? {
         Some(found) => learned.add(call.alloc, file, found),
         None => Ok(()),
     }

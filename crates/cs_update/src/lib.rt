@@ -5,10 +5,12 @@
 //! `specs/Updating.antt`: which bytes are the updated state.
 //!
 //! `learn_files` reads each file once and to its end, through a `Watched` source, which remembers
-//! whether a NUL was among the first bytes. A text goes with its trigrams to a `Builder` of
-//! `cs_index`, a binary file and one that no index can hold to the *others*. A file that cannot be
-//! read to its end is not learned, since a search has to report it each time, and neither is one
-//! whose stamp is not old at the moment of the run: a later write might give the same stamp.
+//! whether a NUL was among the first bytes, and counts them. A text goes with its trigrams to a
+//! `Builder` of `cs_index`, a binary file and one that no index can hold to the *others*, and so
+//! does one that has not as many bytes as its stamp says, as a text apart. A file that cannot be
+//! read to its end is not learned, since a search has to report it each time. Neither is one whose
+//! stamp is not old at the moment of the run, since a later write might give the same stamp, one
+//! that has another stamp when it is opened, and one whose stamp says that it is empty.
 //!
 //! `first_state` writes the state that knows what was learned. `update_state` merges it with an old
 //! state: the old index with that of the texts that were learned, whose paths are the names that

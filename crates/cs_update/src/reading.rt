@@ -1,47 +1,76 @@
 // Reading one file.
-ghost use Rattle.std.specs.Prelude.{◌≡◌, IfOk, IfSome, false, option_map};
-ghost use Rattle.cs_update.specs.Cited.{item_at, found_content, has_distinct, item_content, IsFoundIn, IsReadToEnd};
+ghost use Rattle.std.specs.Prelude.{◌≡◌, IfOk, IfSome, Some, false, option_map};
+ghost use Rattle.cs_known.specs.Skipped.{is_known_stamp};
+ghost use Rattle.cs_update.specs.Cited.{item_at, found_content, has_distinct, seen_content, HasOpened, IsFoundIn, IsReadToEnd};
 
 use crate::found::Found;
 use crate::watched::Watched;
 use cs_state::Unindexed;
-use cs_tree::{IoFault, Source, Tree, TreeFault, TreeReader};
+use cs_tree::{IoFault, Look, Source, Stamp, TreeFault, TreeReader};
 use cs_trigram::{Scan, ScanFault, Scanner};
 use std::alloc::AllocError;
 
-/// Reads the file at a path, once and to its end. None if it cannot be read.
-pub(crate) fn read_file<'a, T: Tree>(
+/// Reads the file at a path, once and to its end, if this is still its stamp. None if it is not, if
+/// the file cannot be read, or if its size is 0.
+pub(crate) fn read_file<'a, T: Look>(
     scanner: &'a mut Scanner,
     tree: &mut T,
     path: &str,
+    stamp: &Stamp,
 ) -> Result<Option<Found<'a>>, AllocError>
-    ensures found { IfSome (T.snapshot tree.old) (λ items.
-        IfOk result (λ found. option_map found_content found ≡ item_content (item_at items path.now))) }
+    ensures found { IfSome (T.snapshot tree.old) (λ items. IfOk result (λ found.
+        option_map found_content found ≡ seen_content stamp.now (T.stamps items path.now)
+        (item_at items path.now))) }
     ensures distinct { IfOk result (λ found. IfSome found has_distinct) }
     ensures keeps { T.snapshot tree.new ≡ T.snapshot tree.old }
 {
-    match tree.open(path) {
-        Ok(()) => {}
-        Err(TreeFault::Memory) => return Err(AllocError),
-        Err(_) => return Ok(None),
+    if !open_seen(tree, path, stamp)? {
+        return Ok(None);
     }
-    let mut source = Watched::new(TreeReader::new(tree));
-    match find(scanner, &mut source) {
+    let mut source = Watched::new(TreeReader::new(tree), stamp.size);
+    match find(scanner, &mut source, stamp.size) {
         Ok(found) => Ok(Some(found)),
         Err(IoFault::Failed) => Ok(None),
         Err(IoFault::Memory) => Err(AllocError),
     }
 }
 
-/// What is found in a source before its first read. It is read to its end, also where that decides
-/// nothing: a file that cannot be read is not learned.
+/// Opens the file at a path, if this is still its stamp, and its size is not 0. Returns whether it
+/// is open.
+fn open_seen<T: Look>(tree: &mut T, path: &str, stamp: &Stamp) -> Result<bool, AllocError>
+    ensures opened { IfSome (T.snapshot tree.old) (λ items. IfOk result
+        (HasOpened stamp.now.size (T.opened tree.new)
+        (seen_content stamp.now (T.stamps items path.now) (item_at items path.now)))) }
+    ensures keeps { T.snapshot tree.new ≡ T.snapshot tree.old }
+{
+    if stamp.size == 0 {
+        return Ok(false);
+    }
+    match tree.open_file(path) {
+        Ok(now) => Ok(is_same(stamp, now)),
+        Err(TreeFault::Memory) => Err(AllocError),
+        Err(_) => Ok(false),
+    }
+}
+
+/// Whether the stamp is the one that was seen.
+fn is_same(seen: &Stamp, now: Option<Stamp>) -> bool
+    ensures { result ≡ is_known_stamp seen.now now }
+{
+    now == Some(*seen)
+}
+
+/// What is found in a source of this size before its first read. It is read to its end, also where
+/// that decides nothing: a file that cannot be read is not learned.
 fn find<'a, R: Source>(
     scanner: &'a mut Scanner,
     source: &mut Watched<R>,
+    size: u64,
 ) -> Result<Found<'a>, IoFault>
     requires left { source.old.left ≡ 8000 }
     requires unseen { source.old.has_nul ≡ false }
-    ensures found { IsFoundIn (R.model source.old.rest) result }
+    requires missing { source.old.missing ≡ Some size }
+    ensures found { IsFoundIn (R.model source.old.rest) size result }
     ensures distinct { IfOk result has_distinct }
     ensures keeps { R.Keeps source.old.rest source.new.rest }
 {
@@ -51,6 +80,9 @@ fn find<'a, R: Source>(
         Err(ScanFault::Memory) => return Err(IoFault::Memory),
     };
     skip_rest(source)?;
+    if !source.is_whole() {
+        return Ok(Found::Unindexed(Unindexed::Apart));
+    }
     if source.has_nul {
         return Ok(Found::Unindexed(Unindexed::Binary));
     }

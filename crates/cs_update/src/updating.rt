@@ -1,7 +1,7 @@
 // A first state, and the update of one.
 ghost use Rattle.std.specs.Prelude.{◌≡◌, ◌∷◌, [], true, ℕ, List, Some, IfOk, length, map, string_bytes};
 ghost use Rattle.std.specs.List.{AllByRecursion};
-ghost use Rattle.cs_update.specs.Cited.{are_ascending, Snapshot, names_of, Parts, TablesIn, Run, IsMerged, most_bytes, ProjectState, known_of, IsOther, AreWithin, HasBegun, IsOpenState, IsFirstState, IsUpdatedState, SawFiles, seen_by, IsMergedState, IsWritten};
+ghost use Rattle.cs_update.specs.Cited.{are_ascending, Snapshot, names_of, Parts, TablesIn, IsMerged, most_bytes, ProjectState, known_of, IsOther, AreWithin, HasBegun, IsOpenState, IsFirstState, IsUpdatedState, run_of, seen_by, IsMergedState, IsWritten};
 
 use crate::call::UpdateCall;
 use crate::counted_output::CountedOutput;
@@ -18,18 +18,18 @@ use cs_index::{BuildFault, Index, OldIndex, Tables};
 use cs_merge::merge_stored;
 use cs_output::Output;
 use cs_state::{FirstBytes, OtherReader, StampReader, StateFile, SummedBytes, SummedOutput};
-use cs_tree::{Store, Tree};
+use cs_tree::{Look, Store};
 use std::alloc::{AllocError, Global};
 
 /// Gives an output the first state of a project: what the run learns of its files.
-pub fn first_state<T: Tree, O: Output + Drop>(
+pub fn first_state<T: Look, O: Output + Drop>(
     call: &UpdateCall<'_>,
     tree: &mut T,
     out: O,
 ) -> Result<O, UpdateFault>
     requires { O.given out ≡ [] }
-    ensures first { (items : Snapshot) (run : Run) → T.snapshot tree.old ≡ Some items →
-        SawFiles items call.now run → IfOk result (λ out. IsFirstState run (seen_by call.now) (O.given out)) }
+    ensures first { (items : Snapshot) → T.snapshot tree.old ≡ Some items → IfOk result (λ out.
+        IsFirstState (run_of call.now items (T.stamps items)) (seen_by call.now) (O.given out)) }
     ensures keeps { T.snapshot tree.new ≡ T.snapshot tree.old }
 {
     let paths = root_path(call.alloc)?;
@@ -83,7 +83,7 @@ fn write_learned<O: Output + Drop>(
 ///
 /// `BadState` if the old state is damaged, or its names do not ascend; `TooLarge` if the new one
 /// would have 2^32 bytes; and those of `learn_files`.
-pub fn update_state<S: Store + Drop, T: Tree, O: Output + Drop>(
+pub fn update_state<S: Store + Drop, T: Look, O: Output + Drop>(
     call: &UpdateCall<'_>,
     state: StateFile<S>,
     file: S,
@@ -92,10 +92,10 @@ pub fn update_state<S: Store + Drop, T: Tree, O: Output + Drop>(
 ) -> Result<O, UpdateFault>
     requires given { O.given out ≡ [] }
     requires within { AreWithin state.lengths }
-    ensures updated { (items : Snapshot) (run : Run) (old : ProjectState) → T.snapshot tree.old ≡ Some items →
-        SawFiles items call.now run → IsOpenState (S.model file)
-        (⟦<FirstBytes<SummedBytes<S>> as Store>⟧.model state.bytes) state.lengths state.index old →
-        IfOk result (λ out. IsUpdatedState run (seen_by call.now) old (O.given out)) }
+    ensures updated { (items : Snapshot) (old : ProjectState) → T.snapshot tree.old ≡ Some items →
+        IsOpenState (S.model file) (⟦<FirstBytes<SummedBytes<S>> as Store>⟧.model state.bytes) state.lengths
+        state.index old → IfOk result (λ out. IsUpdatedState (run_of call.now items (T.stamps items))
+        (seen_by call.now) old (O.given out)) }
     ensures keeps { T.snapshot tree.new ≡ T.snapshot tree.old }
 {
     let paths = own_paths(call.alloc, call.files)?;

@@ -2,7 +2,7 @@
 use crate::fault::CindexFault;
 
 /// One of the three tools.
-#[derive(Clone, Copy, Debug, PartialEq, Eq, Drop)]
+#[derive(Clone, Copy, PartialEq, Eq, Drop)]
 pub enum Tool {
     Cindex,
     Csearch,
@@ -10,7 +10,7 @@ pub enum Tool {
 }
 
 /// The job of a tool.
-#[derive(Debug, PartialEq, Eq, Drop)]
+#[derive(PartialEq, Eq, Drop)]
 pub enum Job {
     Index(IndexJob),
     Search(SearchJob),
@@ -18,7 +18,7 @@ pub enum Job {
 }
 
 /// How the matching lines of a file are printed.
-#[derive(Clone, Copy, Debug, PartialEq, Eq, Drop)]
+#[derive(Clone, Copy, PartialEq, Eq, Drop)]
 pub struct Style {
     /// `-c`: the number of matching lines instead of the lines.
     pub count: bool,
@@ -31,7 +31,7 @@ pub struct Style {
 }
 
 /// A job of `cindex`.
-#[derive(Debug, PartialEq, Eq, Drop)]
+#[derive(PartialEq, Eq, Drop)]
 pub struct IndexJob {
     /// `-list`: print the paths of the index, and do nothing else.
     pub list: bool,
@@ -46,7 +46,7 @@ pub struct IndexJob {
 }
 
 /// A job of `csearch`.
-#[derive(Debug, PartialEq, Eq, Drop)]
+#[derive(PartialEq, Eq, Drop)]
 pub struct SearchJob {
     pub style: Style,
     /// `-i`: ASCII letters of the pattern match in upper and lower case.
@@ -59,7 +59,7 @@ pub struct SearchJob {
 }
 
 /// A job of `cgrep`.
-#[derive(Debug, PartialEq, Eq, Drop)]
+#[derive(PartialEq, Eq, Drop)]
 pub struct GrepJob {
     pub style: Style,
     /// `-i`: ASCII letters of the pattern match in upper and lower case.
@@ -72,7 +72,7 @@ pub struct GrepJob {
 }
 
 /// The outcome of a job of `cindex`.
-#[derive(Clone, Copy, Debug, PartialEq, Eq, Drop)]
+#[derive(Clone, Copy, PartialEq, Eq, Drop)]
 pub enum Reply {
     Done,
     Refused(CindexFault),

@@ -5,13 +5,13 @@ use Rattle.std.specs.Str.{chars, is_utf8}
 use lib.Utf8.{encode}
 use Rattle.cs_syntax.specs.ByteKinds.{byte_kind_of}
 use Rattle.cs_syntax.specs.Items.{next_token}
-use Rattle.cs_project.specs.Words.{after_letters, items_after}
-use Rattle.cs_project.specs.LetterCase.{case_after}
-use Rattle.cs_project.specs.Settings.{no_switches, with_switch}
-use Rattle.cs_project.specs.declared.settings.Task.TheVariants.{Files, Update}
-use Rattle.cs_project.specs.declared.named.Switch.TheVariants.{NoState, NoUpdate, Unrestricted}
-use Rattle.cs_project.specs.declared.words.ItemFault.TheVariants.{Unknown}
-use Rattle.cs_project.specs.declared.words.WordItem.TheVariants.{Switch}
+use Rattle.cs_lines.specs.Words.{after_letters, items_after}
+use Rattle.cs_lines.specs.LetterCase.{case_after}
+use Rattle.cs_lines.specs.Settings.{no_switches, with_switch}
+use Rattle.cs_lines.specs.declared.settings.Task.TheVariants.{Files, Update}
+use Rattle.cs_lines.specs.declared.named.Switch.TheVariants.{NoState, NoUpdate, Unrestricted}
+use Rattle.cs_lines.specs.declared.words.ItemFault.TheVariants.{Unknown}
+use Rattle.cs_lines.specs.declared.words.WordItem.TheVariants.{Switch}
 use Rattle.cs_syntax.specs.declared.fault.PatternFault.TheVariants.{StrayClose}
 use Rattle.cs_command.specs.Choices.{hidden, depth, glob, may_update, of_type}
 use Rattle.cs_command.specs.Lines.{lines_of}
@@ -19,6 +19,7 @@ use Rattle.cs_command.specs.Options.{options_after, part_of}
 use Rattle.cs_command.specs.Patterns.{has_capital, has_capital_after, joined}
 use Rattle.cs_command.specs.Requests.{request_of}
 use Rattle.cs_command.specs.Values.{and_then, number_of}
+use Rattle.cs_command.specs.WordLines.{part_lines}
 use Rattle.cs_command.specs.declared.fault.RequestFault.TheVariants.{Item, NoNumber, NoColour, NoPattern, BadPattern}
 
 numbers : (number_of (codes "12") ≡ Some 12) × (number_of (codes "+3") ≡ Some 3) × (number_of (codes "") ≡ None)
@@ -68,6 +69,14 @@ faults :
     × (request_of (codes "-ea" ∷ codes "-e" ∷ codes "b)" ∷ []) ≡ Err (BadPattern (part_of 2 0) (record { fault = StrayClose; at = 1 })))
 unfolding after_letters items_after options_after and_then case_after joined chars is_utf8 encode next_token byte_kind_of
 faults = (refl, refl, refl, refl, refl)
+
+-- an error is at its offset in the whole value, and after a newline at the end a line follows
+lines : (part_lines (part_of 0 2) (codes "a\n\nbc\n")
+    ≡ record { part = part_of 0 2; at = 0; text = codes "a" } ∷ record { part = part_of 0 2; at = 2; text = [] }
+    ∷ record { part = part_of 0 2; at = 3; text = codes "bc" } ∷ record { part = part_of 0 2; at = 6; text = [] } ∷ [])
+    × (request_of (codes "-ea\nb)" ∷ []) ≡ Err (BadPattern (part_of 0 2) (record { fault = StrayClose; at = 3 })))
+unfolding after_letters items_after options_after and_then case_after joined chars is_utf8 encode next_token byte_kind_of
+lines = (refl, refl)
 
 -- the caret is below the parenthesis; the first character has two bytes
 caret : lines_of (codes "-x" ∷ (195 ∷ 169 ∷ 41 ∷ []) ∷ []) (BadPattern (part_of 1 0) (record { fault = StrayClose; at = 2 }))

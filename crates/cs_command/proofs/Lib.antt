@@ -1,6 +1,7 @@
 pub mod StageLemmas
 pub mod OptionLemmas
 pub mod ValueLemmas
+pub mod WordLineLemmas
 pub mod ChoiceLemmas
 pub mod PatternLemmas
 pub mod RequestLemmas

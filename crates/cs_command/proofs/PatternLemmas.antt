@@ -1,7 +1,8 @@
 -- Texts and their patterns.
-use Rattle.std.proofs.Common.{◌≡◌, ℕ, ◌<◌, ◌≤◌, Bool, true, false, ◌||◌, List, [], ◌∷◌, length, refl, sym, ap, ◌∙◌, arith}
+use Rattle.std.proofs.Common.{◌≡◌, ℕ, ◌+◌, ◌<◌, ◌≤◌, Bool, true, false, ◌||◌, List, [], ◌∷◌, length, drop, get_or, map, refl, sym, ap, ◌∙◌, arith}
 use Rattle.std.specs.Prelude.{◌≢◌, if◌then◌else◌, Result, Ok, Err}
 use Rattle.std.proofs.lemmas.Bool.{le-ltb, lt-ltb}
+use Rattle.std.proofs.lemmas.List.{at_drop_all, at_drop_more}
 use Rattle.cs_syntax.specs.Matching.{Tree}
 use Rattle.cs_syntax.specs.ParseErrors.{IsParseError, syntax, too_large, memory}
 use Rattle.cs_syntax.specs.Parsing.{ParseResult, tree, rejected, ParsesAs}
@@ -9,12 +10,11 @@ use Rattle.cs_syntax.specs.Joining.{either, pattern_of}
 use Rattle.cs_syntax.specs.Weight.{max_weight, weight}
 use Rattle.cs_syntax.specs.declared.fault.PatternError.{PatternError}
 use Rattle.cs_syntax.specs.declared.fault.PatternFault.TheVariants.{TooLarge, Memory}
-use Rattle.cs_project.specs.declared.letter_case.LetterCase.{LetterCase}
-use Rattle.cs_project.specs.declared.settings.PatternStyle.{PatternStyle}
-use Rattle.cs_command.specs.Values.{and_then}
-use Rattle.cs_command.specs.Patterns.{is_capital, escapes, has_capital_after, has_capitals, folds, parsed_text, pattern_at, located, joined, pattern_in}
+use Rattle.cs_lines.specs.declared.settings.PatternStyle.{PatternStyle}
+use Rattle.cs_command.specs.Patterns.{is_capital, escapes, has_capital_after, parsed_text, pattern_at, located, joined}
+use Rattle.cs_command.specs.WordLines.{LineView, line_view}
 use Rattle.cs_command.specs.declared.fault.RequestFault.{RequestFault}
-use Rattle.cs_command.specs.declared.options.WordPart.{WordPart}
+use Rattle.cs_command.specs.declared.word_lines.WordLine.{WordLine}
 use Rattle.cs_command.proofs.StageLemmas.{and_then_ok, and_then_err}
 
 -- ---- capital letters
@@ -60,32 +60,30 @@ parsed_err text fold e (memory fault _) other = absurd (other fault)
 
 -- ---- joined patterns
 
--- the first pattern, and then the others
-pub one_by_one : (words : List (List ℕ)) (style : PatternStyle) (case : LetterCase) (parts more : List WordPart) (first : WordPart) (fold capital : Bool)
-    → parts ≡ first ∷ more → fold ≡ folds case capital → capital ≡ has_capitals words style.literal parts
-    → pattern_in words style case parts ≡ and_then (pattern_at words style fold first) (λ t. joined words style fold t more)
-one_by_one words style case parts more first fold capital is folded has =
-    ap (pattern_in words style case) is
-    ∙ ap (λ f. and_then (pattern_at words style f first) (λ t. joined words style f t more))
-    (ap (λ ps. folds case (has_capitals words style.literal ps)) (sym is) ∙ ap (folds case) (sym has) ∙ sym folded)
+module _ (style : PatternStyle) (fold : Bool) where
+  -- the lines from one on
+  abbrev joined_from : Tree → List WordLine → Result Tree RequestFault
+  joined_from t lines = joined style fold t (map line_view lines)
 
-module _ (words : List (List ℕ)) (style : PatternStyle) (fold : Bool) where
-  pub no_part : (t : Tree) (parts : List WordPart) → length parts ≡ 0 → joined words style fold t parts ≡ Ok t
+  pub no_line : (t : Tree) (lines : List WordLine) (i : ℕ) → length lines ≤ i → joined_from t (drop i lines) ≡ Ok t
   unfolding joined
-  no_part t [] none = refl
-  no_part t (part ∷ parts) none = absurd (omega (arith, none))
+  no_line t lines i end = at_drop_all (joined_from t) lines i end
 
-  pub next_part : (t u both : Tree) (part : WordPart) (parts : List WordPart) → pattern_at words style fold part ≡ Ok u
-      → located part (pattern_of (either t u)) ≡ Ok both → joined words style fold t (part ∷ parts) ≡ joined words style fold both parts
-  unfolding joined
-  next_part t u both part parts parsed is = and_then_ok _ _ u parsed ∙ and_then_ok _ _ both is
+  module _ (t : Tree) (lines : List WordLine) (i : ℕ) (none : WordLine) (low : i < length lines) where
+    abbrev one : LineView
+    one = line_view (get_or lines i none)
 
-  pub bad_part : (t : Tree) (part : WordPart) (parts : List WordPart) (fault : RequestFault) → pattern_at words style fold part ≡ Err fault
-      → joined words style fold t (part ∷ parts) ≡ Err fault
-  unfolding joined
-  bad_part t part parts fault parsed = and_then_err _ _ fault parsed
+    pub next_line : (u both : Tree) → pattern_at style fold one ≡ Ok u → located one (pattern_of (either t u)) ≡ Ok both
+        → joined_from t (drop i lines) ≡ joined_from both (drop (i + 1) lines)
+    unfolding joined
+    next_line u both parsed is = at_drop_more (joined_from t) lines i none low ∙ and_then_ok _ _ u parsed ∙ and_then_ok _ _ both is
 
-  pub large_part : (t u : Tree) (part : WordPart) (parts : List WordPart) (fault : RequestFault) → pattern_at words style fold part ≡ Ok u
-      → located part (pattern_of (either t u)) ≡ Err fault → joined words style fold t (part ∷ parts) ≡ Err fault
-  unfolding joined
-  large_part t u part parts fault parsed is = and_then_ok _ _ u parsed ∙ and_then_err _ _ fault is
+    pub bad_line : (fault : RequestFault) → pattern_at style fold one ≡ Err fault → joined_from t (drop i lines) ≡ Err fault
+    unfolding joined
+    bad_line fault parsed = at_drop_more (joined_from t) lines i none low ∙ and_then_err _ _ fault parsed
+
+    pub large_line : (u : Tree) (fault : RequestFault) → pattern_at style fold one ≡ Ok u
+        → located one (pattern_of (either t u)) ≡ Err fault → joined_from t (drop i lines) ≡ Err fault
+    unfolding joined
+    large_line u fault parsed is =
+        at_drop_more (joined_from t) lines i none low ∙ and_then_ok _ _ u parsed ∙ and_then_err _ _ fault is

@@ -1,6 +1,7 @@
 -- Definitions that public contracts cite: what words ask for.
 pub mod Options
 pub mod Values
+pub mod WordLines
 pub mod Choices
 pub mod Patterns
 pub mod Texts

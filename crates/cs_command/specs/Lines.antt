@@ -1,8 +1,8 @@
 -- The lines of errors. Words are lists of bytes.
 use Rattle.std.specs.Prelude.{ℕ, Bool, ◌||◌, ◌&&◌, not, nat_le, nat_lt, if◌then◌else◌, List, ◌++◌, take, replicate, count_by, codes, decimal}
 use Rattle.std.specs.List.{list_any}
-use Rattle.cs_project.specs.declared.words.ItemFault.{ItemFault}
-use Rattle.cs_project.specs.declared.words.ItemFault.TheVariants.{Unknown, LeftOut, ExtraValue, NoValue, Memory as ItemMemory}
+use Rattle.cs_lines.specs.declared.words.ItemFault.{ItemFault}
+use Rattle.cs_lines.specs.declared.words.ItemFault.TheVariants.{Unknown, LeftOut, ExtraValue, NoValue, Memory as ItemMemory}
 use Rattle.cs_syntax.specs.FaultTexts.{fault_text}
 use Rattle.cs_syntax.specs.declared.fault.PatternError.{PatternError}
 use Rattle.cs_syntax.specs.declared.fault.PatternFault.{PatternFault}
@@ -62,7 +62,7 @@ lines_of words (Item fault) = item_line words fault
 lines_of words (NoNumber part) = line_about (codes "not a number") (text_of words part)
 lines_of words (NoColour part) = line_about (codes "not always, never or auto") (text_of words part)
 lines_of words (NoType part) = line_about (codes "no such type (cs --type-list)") (text_of words part)
-lines_of words (NoGlob part) = line_about (codes "not a glob") (text_of words part)
+lines_of words (NoGlob part) = line_about (codes "not a glob that matches anything") (text_of words part)
 lines_of words NoPattern = line_of (codes "no pattern (cs --help)")
 lines_of words (BadPattern part error) = pattern_lines (text_of words part) error
 lines_of words Memory = line_of (codes "out of memory")

@@ -1,15 +1,16 @@
--- What is searched for: each pattern is parsed alone, and the trees are joined.
-use Rattle.std.specs.Prelude.{ℕ, ◌==◌, Bool, true, false, not, ◌||◌, ◌&&◌, if◌then◌else◌, List, [], ◌∷◌, Result, Ok, Err}
+-- What is searched for: each line of a text of patterns is one pattern, which is parsed alone, and the trees are joined.
+use Rattle.std.specs.Prelude.{ℕ, ◌+◌, ◌==◌, Bool, true, false, not, ◌||◌, ◌&&◌, if◌then◌else◌, List, [], ◌∷◌, Result, Ok, Err}
 use Rattle.std.specs.Char.{is_ascii_uppercase}
 use Rattle.std.specs.List.{list_any}
 use Rattle.cs_syntax.specs.Matching.{Tree}
 use Rattle.cs_syntax.specs.Parsing.{parse_result, tree, rejected}
 use Rattle.cs_syntax.specs.Joining.{either, whole_line, literal, pattern_of}
 use Rattle.cs_syntax.specs.declared.fault.PatternError.{PatternError}
-use Rattle.cs_project.specs.declared.letter_case.LetterCase.{LetterCase}
-use Rattle.cs_project.specs.declared.letter_case.LetterCase.TheVariants.{Exact, Fold, Smart}
-use Rattle.cs_project.specs.declared.settings.PatternStyle.{PatternStyle}
+use Rattle.cs_lines.specs.declared.letter_case.LetterCase.{LetterCase}
+use Rattle.cs_lines.specs.declared.letter_case.LetterCase.TheVariants.{Exact, Fold, Smart}
+use Rattle.cs_lines.specs.declared.settings.PatternStyle.{PatternStyle}
 use Rattle.cs_command.specs.Values.{and_then, text_of}
+use Rattle.cs_command.specs.WordLines.{LineView, lines_in}
 use Rattle.cs_command.specs.declared.fault.RequestFault.{RequestFault}
 use Rattle.cs_command.specs.declared.fault.RequestFault.TheVariants.{NoPattern, BadPattern}
 use Rattle.cs_command.specs.declared.options.WordPart.{WordPart}
@@ -57,25 +58,30 @@ whole is_whole (Err error) = Err error
 abbrev pub parsed : PatternStyle → Bool → List ℕ → Result Tree PatternError
 parsed style fold text = whole style.lines (parsed_text style.literal fold text)
 
--- an error is at its pattern
-abbrev pub located : WordPart → Result Tree PatternError → Result Tree RequestFault
-located part (Ok t) = Ok t
-located part (Err error) = Err (BadPattern part error)
+-- an error is at its offset in the part of a word
+abbrev pub located_at : LineView → PatternError → RequestFault
+located_at line error = BadPattern line.part (record { fault = error.fault; at = line.at + error.at })
 
--- the pattern of a part of a word
-abbrev pub pattern_at : List (List ℕ) → PatternStyle → Bool → WordPart → Result Tree RequestFault
-pattern_at words style fold part = located part (parsed style fold (text_of words part))
+abbrev pub located : LineView → Result Tree PatternError → Result Tree RequestFault
+located line (Ok t) = Ok t
+located line (Err error) = Err (located_at line error)
+
+-- the pattern that a line is
+abbrev pub pattern_at : PatternStyle → Bool → LineView → Result Tree RequestFault
+pattern_at style fold line = located line (parsed style fold line.text)
 
 -- the lines that match the pattern so far, or one of more patterns
-unfoldable pub joined : List (List ℕ) → PatternStyle → Bool → Tree → List WordPart → Result Tree RequestFault
-joined words style fold t [] = Ok t
-joined words style fold t (part ∷ parts) =
-    and_then (pattern_at words style fold part) (λ u.
-    and_then (located part (pattern_of (either t u))) (λ both. joined words style fold both parts))
+unfoldable pub joined : PatternStyle → Bool → Tree → List LineView → Result Tree RequestFault
+joined style fold t [] = Ok t
+joined style fold t (line ∷ lines) =
+    and_then (pattern_at style fold line) (λ u.
+    and_then (located line (pattern_of (either t u))) (λ both. joined style fold both lines))
 
 -- the lines that match one of the patterns
+abbrev pub pattern_by : PatternStyle → Bool → List LineView → Result Tree RequestFault
+pattern_by style fold [] = Err NoPattern
+pattern_by style fold (line ∷ lines) = and_then (pattern_at style fold line) (λ t. joined style fold t lines)
+
+-- each line of the parts of words is a pattern
 abbrev pub pattern_in : List (List ℕ) → PatternStyle → LetterCase → List WordPart → Result Tree RequestFault
-pattern_in words style case [] = Err NoPattern
-pattern_in words style case (part ∷ parts) =
-    let fold = folds case (has_capitals words style.literal (part ∷ parts)) in
-    and_then (pattern_at words style fold part) (λ t. joined words style fold t parts)
+pattern_in words style case parts = pattern_by style (folds case (has_capitals words style.literal parts)) (lines_in words parts)

@@ -7,13 +7,13 @@ ghost use Rattle.cs_listing.specs.Choices.{AddsGlob, AddsType};
 ghost use Rattle.cs_command.specs.Choices.{ChoosesAll, hidden_if, ignored_if, depth_of, choices_by, choice_by, choice_in, IsChoiceIn, chooses_files, may_update};
 ghost use Rattle.cs_command.specs.Values.{text_of};
 ghost use Rattle.cs_command.specs.declared.fault.RequestFault.TheVariants.{Memory, NoGlob, NoType};
-ghost use Rattle.cs_project.specs.declared.words.WordItem.TheVariants.{Value};
+ghost use Rattle.cs_lines.specs.declared.words.WordItem.TheVariants.{Value};
 
 use crate::fault::RequestFault;
 use crate::options::WordPart;
 use crate::values::text_of;
+use cs_lines::{FileChoice, Switch, Switches, Valued, WordItem};
 use cs_listing::Choices;
-use cs_project::{FileChoice, Switch, Switches, Valued, WordItem};
 
 /// Chooses by the switches and the depth.
 pub(crate) fn choose_kinds(choices: &mut Choices, files: FileChoice, depth: Option<usize>)

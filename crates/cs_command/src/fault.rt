@@ -1,7 +1,7 @@
 // Why words ask for nothing.
 
 use crate::options::WordPart;
-use cs_project::ItemFault;
+use cs_lines::ItemFault;
 use cs_syntax::PatternError;
 use std::alloc::{AllocError, AllocFailed};
 
@@ -16,7 +16,7 @@ pub enum RequestFault {
     NoColour(WordPart),
     /// There is no such type of files, as in `-t zz`.
     NoType(WordPart),
-    /// The braces of a glob do not match, as in `-g '{a'`, or it has too many alternatives.
+    /// A glob matches nothing, as in `-g '{a'`, `-g '['` or `-g /`, or has too many alternatives.
     NoGlob(WordPart),
     /// There is no pattern.
     NoPattern,

@@ -3,10 +3,11 @@
 //! option counts, `specs/Values.antt` what the values are, `specs/Choices.antt` which files they
 //! choose, and `specs/Patterns.antt` what is searched for.
 //!
-//! `read_items` of cs_project reads the words as options and operands. `read_request` goes over
+//! `read_items` of cs_lines reads the words as options and operands. `read_request` goes over
 //! them once for the options (`Options`), and then reads their values: numbers, colours, globs and
-//! types, and at last the patterns. Each pattern is parsed alone, so that an error is in its own
-//! pattern, and the trees are joined. `fault_line` has the line of an error, `HELP` the options.
+//! types, and at last the patterns. Each line of a value is a pattern (`specs/WordLines.antt`). It
+//! is parsed alone, so that an error is in its own line, and the trees are joined. `fault_line` has
+//! the line of an error, `HELP` the options.
 #![tactic(auto)]
 
 mod choosing;
@@ -18,6 +19,7 @@ mod patterns;
 mod request;
 mod texts;
 mod values;
+mod word_lines;
 
 pub use fault::RequestFault;
 pub use help::HELP;

@@ -8,7 +8,7 @@ ghost use Rattle.cs_command.specs.Values.{text_of};
 use crate::fault::RequestFault;
 use crate::options::WordPart;
 use crate::values::text_of;
-use cs_project::ItemFault;
+use cs_lines::ItemFault;
 use cs_syntax::{PatternError, PatternFault};
 use itoa::Buffer;
 use std::alloc::{AllocError, Global};
@@ -33,7 +33,13 @@ pub fn fault_line(
         RequestFault::NoType(part) => {
             line_about(alloc, "no such type (cs --type-list)", text_of(words, part))
         }
-        RequestFault::NoGlob(part) => line_about(alloc, "not a glob", text_of(words, part)),
+        RequestFault::NoGlob(part) => {
+            line_about(
+                alloc,
+                "not a glob that matches anything",
+                text_of(words, part),
+            )
+        }
         RequestFault::NoPattern => line_of(alloc, "no pattern (cs --help)"),
         RequestFault::BadPattern(part, error) => pattern_lines(alloc, text_of(words, part), error),
         RequestFault::Memory => line_of(alloc, "out of memory"),

@@ -2,7 +2,7 @@
 ghost use Rattle.std.specs.Prelude.{◌≡◌};
 ghost use Rattle.cs_command.specs.Options.{no_values, with_value, with_item, options_of};
 
-use cs_project::{Switches, Valued, WordItem};
+use cs_lines::{Switches, Valued, WordItem};
 
 /// A part of a word: from a byte to its end.
 #[derive(Clone, Copy, Drop)]

@@ -2,13 +2,15 @@
 ghost use Rattle.std.specs.Prelude.{◌≡◌, ◌≢◌, map, string_bytes, Ok, Err, IfOk, IfErr};
 ghost use Rattle.cs_syntax.specs.Joining.{either, pattern_of};
 ghost use Rattle.cs_syntax.specs.declared.fault.PatternFault.TheVariants.{Memory as PatternMemory};
-ghost use Rattle.cs_command.specs.Patterns.{is_capital, escapes, has_capital, folds, has_capitals, parsed_text, parsed, located, pattern_at, joined, pattern_in};
-ghost use Rattle.cs_command.specs.declared.fault.RequestFault.TheVariants.{Memory, BadPattern};
+ghost use Rattle.cs_command.specs.Patterns.{is_capital, escapes, has_capital, folds, has_capitals, parsed_text, parsed, located, located_at, pattern_at, joined, pattern_by, pattern_in};
+ghost use Rattle.cs_command.specs.WordLines.{line_view};
+ghost use Rattle.cs_command.specs.declared.fault.RequestFault.TheVariants.{Memory};
 
 use crate::fault::RequestFault;
 use crate::options::WordPart;
 use crate::values::text_of;
-use cs_project::{LetterCase, PatternStyle};
+use crate::word_lines::{WordLine, lines_in};
+use cs_lines::{LetterCase, PatternStyle};
 use cs_syntax::{Pattern, PatternError, PatternFault, parse};
 use std::alloc::Global;
 
@@ -96,76 +98,92 @@ fn parsed_text(
     }
 }
 
-/// The error of a pattern that is a part of a word.
-fn located(part: WordPart, error: PatternError) -> RequestFault
-    ensures { result ≢ Memory → (result ≡ BadPattern part error) × (error.fault ≢ PatternMemory) }
+/// The error of the pattern that a line is.
+fn located(line: &WordLine<'_>, error: PatternError) -> RequestFault
+    ensures { result ≢ Memory →
+        (result ≡ located_at (line_view line.now) error) × (error.fault ≢ PatternMemory) }
 {
-    match error.fault {
-        PatternFault::Memory => RequestFault::Memory,
-        _ => RequestFault::BadPattern(part, error),
+    match (error.fault, line.at.checked_add(error.at)) {
+        // The offset of an error is in its line, so the sum is always there.
+        (PatternFault::Memory, _) | (_, None) => RequestFault::Memory,
+        (fault, Some(at)) => RequestFault::BadPattern(line.part, PatternError { fault, at }),
     }
 }
 
-/// The pattern of a part of a word.
+/// The pattern that a line is.
 fn pattern_at(
     alloc: Global,
-    words: &[String],
     style: PatternStyle,
     fold: bool,
-    part: WordPart,
+    line: &WordLine<'_>,
 ) -> Result<Pattern, RequestFault>
-    ensures pattern { IfOk result (λ p. pattern_at (map string_bytes words.now) style fold part ≡ Ok p) }
-    ensures fault { IfErr result (λ fault. fault ≢ Memory →
-        pattern_at (map string_bytes words.now) style fold part ≡ Err fault) }
+    ensures pattern { IfOk result (λ p. pattern_at style fold (line_view line.now) ≡ Ok p) }
+    ensures fault { IfErr result
+        (λ fault. fault ≢ Memory → pattern_at style fold (line_view line.now) ≡ Err fault) }
 {
-    match parsed(alloc, style, fold, text_of(words, part)) {
+    match parsed(alloc, style, fold, line.text) {
         Ok(pattern) => Ok(pattern),
-        Err(error) => Err(located(part, error)),
+        Err(error) => Err(located(line, error)),
     }
 }
 
-/// The lines that match one of two patterns. `part` is that of the second.
+/// The lines that match one of two patterns. `line` is the second.
 fn either_at(
     alloc: Global,
     first: Pattern,
     second: Pattern,
-    part: WordPart,
+    line: &WordLine<'_>,
 ) -> Result<Pattern, RequestFault>
-    ensures pattern { IfOk result (λ p. located part (pattern_of (either first second)) ≡ Ok p) }
+    ensures pattern { IfOk result
+        (λ p. located (line_view line.now) (pattern_of (either first second)) ≡ Ok p) }
     ensures fault { IfErr result (λ fault. fault ≢ Memory →
-        located part (pattern_of (either first second)) ≡ Err fault) }
+        located (line_view line.now) (pattern_of (either first second)) ≡ Err fault) }
 {
     match first.either(alloc, second) {
         Ok(pattern) => Ok(pattern),
-        Err(error) => Err(located(part, error)),
+        Err(error) => Err(located(line, error)),
     }
 }
 
 /// The lines that match the first pattern or one of more.
 fn joined(
     alloc: Global,
-    words: &[String],
     style: PatternStyle,
     fold: bool,
     first: Pattern,
-    more: &[WordPart],
+    more: &[WordLine<'_>],
 ) -> Result<Pattern, RequestFault>
-    ensures pattern { IfOk result
-        (λ p. joined (map string_bytes words.now) style fold first more.now ≡ Ok p) }
-    ensures fault { IfErr result (λ fault. fault ≢ Memory →
-        joined (map string_bytes words.now) style fold first more.now ≡ Err fault) }
+    ensures pattern { IfOk result (λ p. joined style fold first (map line_view more.now) ≡ Ok p) }
+    ensures fault { IfErr result
+        (λ fault. fault ≢ Memory → joined style fold first (map line_view more.now) ≡ Err fault) }
 {
     let mut all = first;
-    let mut rest = more;
-    'parts: while let Some((part, behind)) = rest.split_first() {
-        let other = pattern_at(alloc, words, style, fold, *part)?;
-        all = either_at(alloc, all, other, *part)?;
-        rest = behind;
+    'patterns: for line in more {
+        let other = pattern_at(alloc, style, fold, line)?;
+        all = either_at(alloc, all, other, line)?;
     }
     Ok(all)
 }
 
-/// The pattern of the lines that match one of the patterns.
+/// The lines that match one of the patterns.
+fn pattern_by(
+    alloc: Global,
+    style: PatternStyle,
+    fold: bool,
+    lines: &[WordLine<'_>],
+) -> Result<Pattern, RequestFault>
+    ensures pattern { IfOk result (λ p. pattern_by style fold (map line_view lines.now) ≡ Ok p) }
+    ensures fault { IfErr result
+        (λ fault. fault ≢ Memory → pattern_by style fold (map line_view lines.now) ≡ Err fault) }
+{
+    let Some((first, more)) = lines.split_first() else {
+        return Err(RequestFault::NoPattern);
+    };
+    let pattern = pattern_at(alloc, style, fold, first)?;
+    joined(alloc, style, fold, pattern, more)
+}
+
+/// The pattern of the lines that match one line of the parts of words.
 pub(crate) fn pattern_in(
     alloc: Global,
     words: &[String],
@@ -177,10 +195,7 @@ pub(crate) fn pattern_in(
     ensures fault { IfErr result (λ fault. fault ≢ Memory →
         pattern_in (map string_bytes words.now) style case parts.now ≡ Err fault) }
 {
-    let Some((first, more)) = parts.split_first() else {
-        return Err(RequestFault::NoPattern);
-    };
     let fold = folds(case, has_capitals(words, style.literal, parts));
-    let pattern = pattern_at(alloc, words, style, fold, *first)?;
-    joined(alloc, words, style, fold, pattern, more)
+    let lines = lines_in(alloc, words, parts)?;
+    pattern_by(alloc, style, fold, &lines)
 }

@@ -11,8 +11,8 @@ use crate::options::{Options, options_of};
 use crate::patterns::pattern_in;
 use crate::texts::{Texts, needs_pattern, texts_of};
 use crate::values::{colour_in, limits_in, size_in};
+use cs_lines::{ItemFault, LetterCase, Limits, Switches, WordItem, case_of, read_items};
 use cs_listing::Choices;
-use cs_project::{ItemFault, LetterCase, Limits, Switches, WordItem, case_of, read_items};
 use cs_syntax::Pattern;
 use std::alloc::Global;
 

@@ -4,7 +4,7 @@ ghost use Rattle.std.specs.List.{filter_map};
 ghost use Rattle.cs_command.specs.Texts.{given_pattern, operand, needs_pattern, texts_of, shown};
 
 use crate::options::WordPart;
-use cs_project::{Task, Valued, WordItem};
+use cs_lines::{Task, Valued, WordItem};
 use std::alloc::{AllocError, Global};
 
 /// The parts of words that are patterns, and the words that are paths.

@@ -115,6 +115,7 @@ memory_line = codes "codesearch: out of memory\n"
 -- the line for an index file that cannot be opened or read
 abbrev pub reading_line : List ℕ → StorageFault → List ℕ
 reading_line file storage.Failed = unreadable_line file
+reading_line file storage.Locked = unreadable_line file
 reading_line file storage.Leftover = unreadable_line file
 reading_line file storage.Descriptors = descriptors_line
 reading_line file storage.Memory = memory_line
@@ -122,6 +123,7 @@ reading_line file storage.Memory = memory_line
 -- the line for an index file that cannot be claimed, written or removed
 abbrev pub writing_line : List ℕ → List ℕ → StorageFault → List ℕ
 writing_line file temp storage.Failed = unwritable_line file
+writing_line file temp storage.Locked = unwritable_line file
 writing_line file temp storage.Leftover = leftover_line file temp
 writing_line file temp storage.Descriptors = descriptors_line
 writing_line file temp storage.Memory = memory_line

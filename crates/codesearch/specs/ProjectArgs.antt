@@ -1,5 +1,5 @@
--- When `cs` is called, and its arguments.
-use Rattle.std.specs.Prelude.{ℕ, Bool, true, false, if◌then◌else◌, List, [], ◌∷◌, Option, Some, None, is_none, codes, bytes_eq, string_bytes}
+-- When `cs` is called, and its arguments; when the tools are asked for.
+use Rattle.std.specs.Prelude.{ℕ, Bool, true, false, ◌&&◌, if◌then◌else◌, List, [], ◌∷◌, Option, Some, None, is_none, is_some, codes, bytes_eq, string_bytes}
 use Rattle.std.specs.Path.{path_file_name}
 use Rattle.codesearch.specs.Program.{given_args, own_tool}
 use Rattle.codesearch.specs.declared.given.Given.{Given}
@@ -18,3 +18,7 @@ abbrev pub project_args : Given → Option (List (List ℕ))
 project_args given =
     if is_named (codes "cs") (path_file_name (string_bytes given.program)) then Some (given_args given)
     else if is_none (own_tool given) then first_is (codes "cs") (given_args given) else None
+
+-- The program is run by the name of no tool, and the first argument is `--help`.
+abbrev pub asks_for_help : Given → Bool
+asks_for_help given = is_none (own_tool given) && is_some (first_is (codes "--help") (given_args given))

@@ -1,6 +1,6 @@
 // What the arguments of the program mean: a tool, and its job.
 ghost use Rattle.std.specs.Prelude.{◌≡◌, [], Some, None, true, false, map, unwrap_or, IfOk, IfErr, IfSome, IsNone, MatchOption, option_copied, option_map, string_bytes};
-ghost use Rattle.codesearch.specs.ProjectArgs.{project_args as project_args'};
+ghost use Rattle.codesearch.specs.ProjectArgs.{asks_for_help as asks_for_help', project_args as project_args'};
 ghost use Rattle.codesearch.specs.Program.{IndexFile, tool_named, own_tool, tool_of, tool_args, absolute_folder, lacks_folder, IsCall, early_line, fault_line, is_of_lines, prints_lines, may_update};
 
 use crate::given::Given;
@@ -88,6 +88,18 @@ pub(crate) fn project_args(given: &Given) -> Option<&[String]>
         Some((first, args)) if first.as_str() == "cs" => Some(args),
         _ => None,
     }
+}
+
+/// Whether the tools are asked for: the program is run by the name of no tool, and the first
+/// argument is `--help`.
+pub(crate) fn asks_for_help(given: &Given) -> bool
+    ensures { result ≡ asks_for_help' given.now }
+{
+    own_tool(given).is_none()
+        && given
+            .args
+            .first()
+            .is_some_and(|first| first.as_str() == "--help")
 }
 
 /// The tool that is called, and its arguments. If the program is run by the name of a tool, as

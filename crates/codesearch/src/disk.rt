@@ -1,12 +1,15 @@
 // The real surroundings of the program: the index file, the disk and the standard streams.
 
 use crate::call::Call;
+use crate::own_tree::OwnTree;
 use crate::progress::{ClearedSink, CountedTree, ProgressLine};
 use crate::running::World;
+use crate::watched::WatchedWriter;
 use cs_args::Tool;
 use cs_storage::{DiskFolder, IndexPaths};
 use cs_tree::{BufferedSink, DiskTree, StdSink, StdSource, is_absolute};
 use std::alloc::AllocError;
+use std::cell::Cell;
 use std::env::VarError;
 use std::io::{Stderr, Stdin, Stdout};
 use std::os::unix::fs::FileTypeExt;
@@ -15,8 +18,8 @@ use std::{env, fs};
 /// The size of the buffer of standard output, in bytes.
 const OUTPUT_BYTES: usize = 65536;
 
-/// The file that standard output goes to.
-const OUTPUT: &str = "/proc/self/fd/1";
+/// The file that standard input comes from.
+const INPUT: &str = "/proc/self/fd/0";
 
 /// The disk and the standard streams.
 pub(crate) type DiskWorld<'p> = World<
@@ -37,7 +40,7 @@ pub(crate) fn disk_world<'p>(
         alloc: rt.alloc(),
         tree: CountedTree { inner, progress },
         input: StdSource::new(rt.stdin()),
-        out: buffered_output(rt)?,
+        out: BufferedSink::new(rt.alloc(), OUTPUT_BYTES, StdSink::new(rt.stdout()))?,
         err: ClearedSink {
             inner: StdSink::new(rt.stderr()),
             progress,
@@ -45,12 +48,13 @@ pub(crate) fn disk_world<'p>(
     })
 }
 
-/// The disk without the file that standard output goes to, for a search of a project.
-pub(crate) fn project_tree(rt: &HostRuntime) -> Result<DiskTree<HostRuntime>, AllocError> {
+/// The disk without the file that standard output goes to, and without the repositories of
+/// strangers, for a search of a project below a folder.
+pub(crate) fn project_tree(rt: &HostRuntime, folder: &str) -> Result<OwnTree, AllocError> {
     let mut tree = DiskTree::new(rt.clone()?);
     tree.shorten_paths()?;
     tree.exclude_output();
-    Ok(tree)
+    Ok(OwnTree::new(rt.clone()?, tree, folder))
 }
 
 /// The folders of a user: the home folder, that of settings, as git finds it, and that of caches.
@@ -59,6 +63,8 @@ pub(crate) struct SettingFolders {
     pub(crate) home: String,
     pub(crate) config: String,
     pub(crate) cache: String,
+    /// The file that takes the place of git's settings of the user.
+    pub(crate) global: Option<String>,
 }
 
 impl SettingFolders {
@@ -69,10 +75,16 @@ impl SettingFolders {
         };
         let config = folder_or(rt, "XDG_CONFIG_HOME", home.as_str(), ".config")?;
         let cache = folder_or(rt, "XDG_CACHE_HOME", home.as_str(), ".cache")?;
+        let global = match env::var(rt, "GIT_CONFIG_GLOBAL") {
+            Ok(file) => Some(file),
+            Err(VarError::OutOfMemory) => return Err(AllocError),
+            Err(_) => None,
+        };
         Ok(Some(SettingFolders {
             home,
             config,
             cache,
+            global,
         }))
     }
 }
@@ -99,19 +111,22 @@ fn folder_in(rt: &HostRuntime, name: &str) -> Result<Option<String>, AllocError>
     }
 }
 
-/// Whether standard output is a pipe.
-pub(crate) fn is_output_piped(rt: &HostRuntime) -> bool {
-    match fs::metadata(rt, OUTPUT) {
+/// Whether standard input is a pipe.
+pub(crate) fn is_input_piped(rt: &HostRuntime) -> bool {
+    match fs::metadata(rt, INPUT) {
         Ok(metadata) => metadata.file_type().is_fifo(),
         Err(_) => false,
     }
 }
 
-/// The buffer before standard output.
-pub(crate) fn buffered_output(
+/// The buffer before standard output, which says whether its reader has gone.
+pub(crate) fn watched_output<'c>(
     rt: &HostRuntime,
-) -> Result<BufferedSink<StdSink<Stdout>>, AllocError> {
-    BufferedSink::new(rt.alloc(), OUTPUT_BYTES, StdSink::new(rt.stdout()))
+    is_closed: &'c Cell<bool>,
+) -> Result<BufferedSink<StdSink<WatchedWriter<'c, Stdout>>>, AllocError> {
+    let inner = rt.stdout();
+    let writer = WatchedWriter { inner, is_closed };
+    BufferedSink::new(rt.alloc(), OUTPUT_BYTES, StdSink::new(writer))
 }
 
 /// The disk, as the tree of the tool.

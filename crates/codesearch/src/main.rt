@@ -32,6 +32,7 @@ mod execution;
 mod given;
 mod laws;
 mod outcome;
+mod own_tree;
 mod part_file;
 mod progress;
 mod project;
@@ -39,17 +40,18 @@ mod project_state;
 mod running;
 mod state_folder;
 mod streams;
+mod watched;
 
 use args::{program_path, read_args};
-use call::{Call, project_args};
+use call::{Call, asks_for_help, project_args};
 use cs_args::Tool;
-use cs_tree::{Sink, StdSink};
+use cs_tree::{Sink, StdSink, write_all};
 use disk::{DiskIndexFile, disk_world};
 use execution::{execute, execute_cgrep};
 use given::Given;
 use outcome::{Outcome, ProgramFault};
 use progress::ProgressLine;
-use project::search_on_disk;
+use project::{refuse, search_on_disk};
 use running::FoundFile;
 use std::alloc::AllocError;
 use std::env;
@@ -57,35 +59,80 @@ use std::io::ErrorKind;
 use std::process::ExitCode;
 use streams::hold_streams;
 
+/// What `codesearch --help` prints.
+const HELP: &str = "\
+usage: codesearch cs [OPTION..] PATTERN [PATH..]     searches a project as it is now
+       codesearch cindex [OPTION..] [PATH..]         indexes trees of files
+       codesearch csearch [OPTION..] PATTERN         searches the indexed files
+       codesearch cgrep [OPTION..] PATTERN [FILE..]  searches files or standard input
+Each tool has a manual page, and is called by its own name through a link.
+";
+
 fn main(rt: HostRuntime) -> ExitCode {
-    let status = match hold_streams(&rt) {
-        // What is held is closed after the run.
-        Ok(_held) => start(&rt),
-        Err(fault) => Ok(report(&rt, &Outcome::Refused(ProgramFault::of_reading("/", fault)))),
-    };
-    let status = match status {
-        Ok(status) => status,
+    let status = match read_given(&rt) {
+        Ok(given) => hold_and_start(&rt, &given),
         Err(AllocError) => report(&rt, &Outcome::Refused(ProgramFault::Memory)),
     };
     ExitCode::from(status)
 }
 
-/// Does what the arguments mean, and returns the exit status.
-fn start(rt: &HostRuntime) -> Result<u8, AllocError> {
+/// What the program is given by the system.
+fn read_given(rt: &HostRuntime) -> Result<Given, AllocError> {
     let mut args = Vec::new(rt.alloc());
     let has_non_text = read_args(rt.alloc(), rt, &mut args)?;
-    let given = Given {
+    Ok(Given {
         program: program_path(rt.alloc(), rt)?,
         args,
         has_non_text,
         folder: current_folder(rt)?,
+    })
+}
+
+/// Does what the arguments mean, and returns the exit status.
+fn hold_and_start(rt: &HostRuntime, given: &Given) -> u8 {
+    let words = project_args(given);
+    let fault = match hold_streams(rt) {
+        // What is held is closed after the run.
+        Ok(_held) => match start(rt, given, words) {
+            Ok(status) => return status,
+            Err(AllocError) => ProgramFault::Memory,
+        },
+        Err(fault) => ProgramFault::of_reading("/", fault),
     };
-    if let Some(words) = project_args(&given) {
-        return search_on_disk(rt, &given, words);
+    match words {
+        Some(_) => refuse(rt, project_line(&fault)),
+        None => report(rt, &Outcome::Refused(fault)),
     }
-    match Call::read(rt.alloc(), &given) {
+}
+
+/// The line of `cs` for what ends it before its own errors.
+fn project_line(fault: &ProgramFault<'_>) -> &'static str {
+    match fault {
+        ProgramFault::Descriptors => "cs: too many open files\n",
+        ProgramFault::Memory => "cs: out of memory\n",
+        _ => "cs: cannot read /\n",
+    }
+}
+
+/// Does what the arguments mean; `words` are those of `cs`.
+fn start(rt: &HostRuntime, given: &Given, words: Option<&[String]>) -> Result<u8, AllocError> {
+    if let Some(words) = words {
+        return search_on_disk(rt, given, words);
+    }
+    if asks_for_help(given) {
+        return Ok(print_help(rt));
+    }
+    match Call::read(rt.alloc(), given) {
         Ok(call) => execute_on_disk(rt, &call),
         Err(fault) => Ok(report(rt, &Outcome::Refused(fault))),
+    }
+}
+
+/// Prints the four tools, and returns the exit status.
+fn print_help(rt: &HostRuntime) -> u8 {
+    match write_all(&mut StdSink::new(rt.stdout()), HELP.as_bytes()) {
+        Ok(()) => 0,
+        Err(_) => 2,
     }
 }
 

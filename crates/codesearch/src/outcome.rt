@@ -42,7 +42,9 @@ impl<'a> ProgramFault<'a> {
         ensures { fault_line result ≡ reading_line file.now fault }
     {
         match fault {
-            StorageFault::Failed | StorageFault::Leftover => ProgramFault::Unreadable(file),
+            StorageFault::Failed | StorageFault::Locked | StorageFault::Leftover => {
+                ProgramFault::Unreadable(file)
+            }
             StorageFault::Descriptors => ProgramFault::Descriptors,
             StorageFault::Memory => ProgramFault::Memory,
         }
@@ -54,7 +56,7 @@ impl<'a> ProgramFault<'a> {
         ensures { fault_line result ≡ writing_line file.now temp.now fault }
     {
         match fault {
-            StorageFault::Failed => ProgramFault::Unwritable(file),
+            StorageFault::Failed | StorageFault::Locked => ProgramFault::Unwritable(file),
             StorageFault::Leftover => ProgramFault::Leftover(file, temp),
             StorageFault::Descriptors => ProgramFault::Descriptors,
             StorageFault::Memory => ProgramFault::Memory,

@@ -2,7 +2,9 @@
 // output of the tool: it is written past the sinks, and is removed before one of them is written
 // to.
 
-use cs_tree::{IoFault, Kind, Listing, Sink, StdSink, Tree, TreeFault, write_all};
+use cs_tree::{
+    IoFault, Kind, Listing, Look, Seen, Sink, Stamp, StdSink, Tree, TreeFault, write_all,
+};
 use std::alloc::{AllocError, Global};
 use std::cell::Cell;
 use std::io::IsTerminal;
@@ -138,6 +140,20 @@ impl<T: Tree + Drop> Tree for CountedTree<'_, T> {
 
     fn failures(&self) -> u64 {
         self.inner.failures()
+    }
+}
+
+impl<T: Look + Drop> Look for CountedTree<'_, T> {
+    ghost stamps = { T.stamps };
+
+    fn look(&mut self, path: &str) -> Result<Seen, TreeFault> {
+        self.progress.count(&self.progress.paths, 1);
+        self.inner.look(path)
+    }
+
+    fn open_file(&mut self, path: &str) -> Result<Option<Stamp>, TreeFault> {
+        self.progress.count(&self.progress.files, 1);
+        self.inner.open_file(path)
     }
 }
 

@@ -3,12 +3,16 @@ ghost use Rattle.std.specs.Prelude.{◌≡◌, true};
 ghost use Rattle.cs_tree.specs.Cover.{is_absolute};
 
 use crate::call::absolute_folder;
-use crate::disk::{SettingFolders, buffered_output, is_output_piped, project_tree};
+use crate::disk::{SettingFolders, is_input_piped, project_tree, watched_output};
 use crate::given::Given;
 use crate::project_state::DiskState;
-use cs_fresh::{FreshFault, ProjectCall, SinkOutput, UserFolders, run_project};
-use cs_tree::{IoFault, Sink, StdSink, write_all};
+use crate::watched::WatchedSink;
+use cs_fresh::{FreshFault, ProjectCall, SinkOutput, run_project};
+use cs_listing::UserFiles;
+use cs_storage::StorageFault;
+use cs_tree::{IoFault, StdSink, StdSource, write_all};
 use std::alloc::AllocError;
+use std::cell::Cell;
 use std::io::IsTerminal;
 
 /// Does what the arguments of `cs` ask for, and returns the exit status.
@@ -31,7 +35,7 @@ pub(crate) fn search_on_disk(
 }
 
 /// Prints the line of an error, and returns the exit status.
-fn refuse(rt: &HostRuntime, line: &str) -> u8 {
+pub(crate) fn refuse(rt: &HostRuntime, line: &str) -> u8 {
     let _ = write_all(&mut StdSink::new(rt.stderr()), line.as_bytes());
     2
 }
@@ -48,9 +52,13 @@ fn search_project<'a>(
     requires { is_absolute folder.now ≡ true }
 {
     let user = match settings {
-        Some(folders) => Some(UserFolders {
+        Some(folders) => Some(UserFiles {
             home: folders.home.as_str(),
             config: folders.config.as_str(),
+            global: match &folders.global {
+                Some(file) => Some(file.as_str()),
+                None => None,
+            },
         }),
         None => None,
     };
@@ -65,27 +73,79 @@ fn search_project<'a>(
         folder,
         user,
         terminal,
+        piped: is_input_piped(rt) && rt.stderr().is_terminal(),
     };
-    let (mut state, mut known) = DiskState::open(rt, folder, cache)?;
-    let mut tree = project_tree(rt)?;
-    let mut out = SinkOutput::new(buffered_output(rt)?, terminal);
-    let mut err = StdSink::new(rt.stderr());
-    let answer = run_project(&call, &mut tree, &mut known, &mut out, &mut err);
-    let flushed = out.flush();
-    let status = if out.fault() == Some(IoFault::Failed) || flushed.is_err() {
-        // A pipe whose reader has gone needs no line.
-        if is_output_piped(rt) {
-            2
-        } else {
-            refuse(rt, "cs: output failed\n")
-        }
-    } else {
-        match answer {
-            Ok(status) => status,
-            Err(FreshFault::Write) => 2,
-            Err(FreshFault::Memory) => return Err(AllocError),
-        }
+    let mut tree = project_tree(rt, folder)?;
+    let (mut state, mut known) = DiskState::open(rt, &mut tree, folder, cache)?;
+    let mut input = StdSource::new(rt.stdin());
+    let is_closed = Cell::new(false);
+    let mut out = SinkOutput::new(watched_output(rt, &is_closed)?, terminal);
+    let mut err = WatchedSink::new(StdSink::new(rt.stderr()));
+    let answer = run_project(&call, &mut tree, &mut input, &mut known, &mut out, &mut err);
+    let is_flushed = out.flush().is_ok();
+    let end = RunEnd {
+        answer,
+        is_printed: is_flushed && out.fault() != Some(IoFault::Failed),
+        is_closed: is_closed.get(),
+        has_errors: err.is_used,
     };
-    state.learn(rt, &known);
-    Ok(status)
+    let status = end.status(rt)?;
+    let learned = state.learn(rt, &known, end.is_printed && end.answer.is_ok());
+    Ok(status_after_learning(rt, known.is_update(), learned, status))
+}
+
+/// How a run ends.
+#[derive(Clone, Copy, Drop)]
+struct RunEnd {
+    answer: Result<u8, FreshFault>,
+    /// Whether all output was written.
+    is_printed: bool,
+    /// Whether the reader of the output has gone.
+    is_closed: bool,
+    /// Whether the line of an error was printed.
+    has_errors: bool,
+}
+
+impl RunEnd {
+    /// The exit status. Where the reader of the output has gone, it is as if the rest had been
+    /// printed: something was found, since something was printed.
+    fn status(&self, rt: &HostRuntime) -> Result<u8, AllocError> {
+        if !self.is_printed && !self.is_closed {
+            return Ok(refuse(rt, "cs: output failed\n"));
+        }
+        match self.answer {
+            Ok(status) => Ok(status),
+            Err(_) if !self.is_printed => Ok(if self.has_errors { 2 } else { 0 }),
+            Err(FreshFault::Write) => Ok(2),
+            Err(FreshFault::Memory) => Err(AllocError),
+        }
+    }
+}
+
+/// The exit status after what was learned is stored, or not. A failure only makes later searches
+/// slower, so on a terminal a line says it; `--update` that stores nothing fails.
+fn status_after_learning(
+    rt: &HostRuntime,
+    is_update: bool,
+    learned: Result<(), StorageFault>,
+    status: u8,
+) -> u8 {
+    match learned {
+        Ok(()) => status,
+        Err(StorageFault::Locked) if !is_update => status,
+        Err(fault) => {
+            if is_update || rt.stderr().is_terminal() {
+                refuse(rt, unstored_line(fault));
+            }
+            if is_update { 2 } else { status }
+        }
+    }
+}
+
+/// The line for what was learned and is not stored.
+fn unstored_line(fault: StorageFault) -> &'static str {
+    match fault {
+        StorageFault::Locked => "cs: another run stores what is known of the project\n",
+        _ => "cs: what is known of the project cannot be stored\n",
+    }
 }

@@ -1,6 +1,7 @@
 // The state of a project on the disk.
 ghost use Rattle.std.specs.Prelude.{◌≡◌, ◌≤◌, ◌<◌, [], length};
 
+use crate::own_tree::OwnTree;
 use crate::part_file::PartFile;
 use crate::progress::{CountedTree, ProgressLine};
 use crate::state_folder::{StateFolder, project_root};
@@ -11,11 +12,10 @@ use cs_storage::{
     DiskFolder, DiskIndex, IndexFolder, IndexUpdate, NewFile, StorageFault, begin_update,
     finish_update, replace_file,
 };
-use cs_tree::{DiskStore, DiskTree, StdSink, Store, Tree, write_all};
+use cs_tree::{DiskStore, DiskTree, Look, Store};
 use cs_update::{SeenFile, StateParts, UpdateCall, UpdateFault, first_state, is_due, update_state};
 use std::alloc::AllocError;
 use std::fs::File;
-use std::io::IsTerminal;
 use std::time::SystemTime;
 
 /// The bytes of the files of a batch, unless there are too many batches: each is merged with the
@@ -38,18 +38,35 @@ struct FoundState {
     home: StateFolder,
     storage: DiskFolder,
     file: Option<DiskIndex>,
+    /// Whether it is known what stood there when the run began.
+    is_seen: bool,
 }
 
 impl FoundState {
     fn open(rt: &HostRuntime, home: StateFolder) -> Result<FoundState, AllocError> {
-        let mut storage = DiskFolder::new(rt.clone()?, home.paths(rt.alloc())?);
+        let mut storage = DiskFolder::private(rt.clone()?, home.paths(rt.alloc())?);
+        if home.is_shared {
+            return Ok(FoundState {
+                home,
+                storage,
+                file: None,
+                is_seen: false,
+            });
+        }
         // What cannot be opened counts as none.
-        let file = storage.look().unwrap_or(None);
+        let seen = storage.look();
+        let is_seen = seen.is_ok();
         Ok(FoundState {
             home,
             storage,
-            file,
+            file: seen.unwrap_or(None),
+            is_seen,
         })
+    }
+
+    /// Whether another run stores its own state there, or has stored it since this run began.
+    fn is_taken(&mut self, fault: StorageFault) -> bool {
+        fault == StorageFault::Locked || (self.is_seen && !self.storage.is_unchanged())
     }
 
     /// The file that was opened, once more and again.
@@ -77,7 +94,8 @@ impl FoundState {
         is_open: bool,
     ) -> Result<(), StorageFault> {
         self.home.make(rt);
-        let progress = ProgressLine::new(rt, "cs", true)?;
+        self.home.remove_shared(rt)?;
+        let progress = ProgressLine::new(rt, "cs: learning", true)?;
         let mut tree = CountedTree {
             inner: DiskTree::of_files(rt.clone()?),
             progress: &progress,
@@ -92,7 +110,7 @@ impl FoundState {
     }
 
     /// Updates the state that was opened, by a batch of files at a time.
-    fn update<T: Tree>(
+    fn update<T: Look>(
         &mut self,
         rt: &HostRuntime,
         root: &str,
@@ -116,7 +134,7 @@ impl FoundState {
 
     /// Stores what is learned of files over the old state, or as a first one. A damaged state is
     /// taken away.
-    fn store<T: Tree>(
+    fn store<T: Look>(
         &mut self,
         rt: &HostRuntime,
         root: &str,
@@ -154,7 +172,7 @@ impl FoundState {
 }
 
 /// Gives an output the old state, updated by what is learned of files.
-fn write_update<T: Tree, O: Output + Drop>(
+fn write_update<T: Look, O: Output + Drop>(
     call: &UpdateCall<'_>,
     old: ClosedState<DiskIndex>,
     tree: &mut T,
@@ -171,7 +189,7 @@ fn write_update<T: Tree, O: Output + Drop>(
 
 /// Gives an output the first state: at once, or joined from the states of parts, each in a file at
 /// this path.
-fn write_first<T: Tree, O: Output + Drop>(
+fn write_first<T: Look, O: Output + Drop>(
     rt: &HostRuntime,
     call: &UpdateCall<'_>,
     part: &str,
@@ -204,7 +222,7 @@ fn write_first<T: Tree, O: Output + Drop>(
 }
 
 /// The first state of a part of the files, in a file that has this path for a moment, opened twice.
-fn write_part<T: Tree>(
+fn write_part<T: Look>(
     rt: &HostRuntime,
     call: &UpdateCall<'_>,
     path: &str,
@@ -258,11 +276,12 @@ impl DiskState {
     /// The state of the project of a folder, and what it knows.
     pub(crate) fn open(
         rt: &HostRuntime,
+        tree: &mut OwnTree,
         folder: &str,
         cache: Option<&str>,
     ) -> Result<(DiskState, StateKnowledge<DiskIndex>), AllocError> {
         let alloc = rt.alloc();
-        let root = String::from_str(alloc, project_root(rt, folder)?)?;
+        let root = project_root(alloc, tree, folder)?;
         let mut found = Vec::new(alloc);
         for home in StateFolder::of_project(rt, root.as_str(), cache)? {
             let state = FoundState::open(rt, home)?;
@@ -302,30 +321,35 @@ impl DiskState {
         is_due(files, self.len(), now(rt))
     }
 
-    /// Learns the files that were not known, if that is due. A state most of whose texts are no
-    /// longer in the project is taken away, so that a later search makes it anew. A failure only
-    /// makes later searches slower; on a terminal a line says it.
-    pub(crate) fn learn(&mut self, rt: &HostRuntime, known: &StateKnowledge<DiskIndex>) {
+    /// Learns the files that were not known, if that is due, in the best folder that takes it. If
+    /// the search has ended by itself, a state most of whose texts are no longer in the project is
+    /// taken away, so that a later search makes it anew. Where another run stores what it has
+    /// learned, this one stores nothing (`Locked`).
+    pub(crate) fn learn(
+        &mut self,
+        rt: &HostRuntime,
+        known: &StateKnowledge<DiskIndex>,
+        is_ended: bool,
+    ) -> Result<(), StorageFault> {
         let files = known.unknown();
-        let is_outdated = self.is_at_root && known.is_outdated() && !known.is_update();
+        let is_outdated = self.is_at_root && known.is_outdated(is_ended) && !known.is_update();
         if !is_outdated && !self.is_due(rt, known) {
-            return;
+            return Ok(());
         }
-        let mut stored = Ok(());
+        let mut stored = Err(StorageFault::Failed);
         for state in &mut self.found {
             stored = if is_outdated {
                 state.remove()
             } else {
                 state.learn(rt, known.root(), files, known.is_open())
             };
-            if stored.is_ok() {
-                return;
+            match stored {
+                Err(fault) if state.is_taken(fault) => return Err(StorageFault::Locked),
+                Err(_) => {}
+                Ok(()) => return Ok(()),
             }
         }
-        if stored.is_err() && rt.stderr().is_terminal() {
-            let line = b"cs: what is known of the project cannot be stored\n";
-            let _ = write_all(&mut StdSink::new(rt.stderr()), line);
-        }
+        stored
     }
 }
 

@@ -1,16 +1,18 @@
 // Where the state of a project is kept.
 //
 // A project may be hostile, so nothing of another user is read or written: the folder `.git`, that
-// of the state, and the state itself are the user's own, and no links. What a file `.git` names is
-// not written to.
+// of the state, and the state itself are the user's own, and no links, and nobody else may write to
+// the last two. What a file `.git` names is not written to.
 
+use crate::own_tree::user_of;
+use cs_listing::repository_above;
 use cs_storage::IndexPaths;
+use cs_tree::Look;
 use hex::encode;
 use sha1::Sha1;
 use std::alloc::{AllocError, Global};
 use std::fs::{self, DirBuilder, Metadata};
 use std::os::unix::fs::{DirBuilderExt, MetadataExt};
-use std::path::Path;
 
 /// The mode of a folder that is made for a state.
 const PRIVATE: u32 = 0o700;
@@ -18,33 +20,29 @@ const PRIVATE: u32 = 0o700;
 /// The owner may write.
 const OWNER_WRITES: u32 = 0o200;
 
+/// Others may write.
+const OTHERS_WRITE: u32 = 0o022;
+
 /// A folder for the state of a project.
 #[derive(Drop)]
 pub(crate) struct StateFolder {
     path: String,
+    /// Whether others may write to the state there, which then counts as none.
+    pub(crate) is_shared: bool,
 }
 
-/// The project of a folder: the nearest folder above with `.git`, or else the folder itself. It is
+/// The project of a folder: the root of the nearest repository, or else the folder itself. It is
 /// empty for `/`, so that it stands before the names of the project.
-pub(crate) fn project_root<'a>(rt: &HostRuntime, folder: &'a str) -> Result<&'a str, AllocError> {
-    let mut above = folder;
-    // Each turn takes a name away.
-    for _ in 0..folder.len() {
-        let git = format!(in rt.alloc(); "{above}/.git")?;
-        if fs::symlink_metadata(rt, git.as_str()).is_ok() {
-            return Ok(before_names(above));
-        }
-        match Path::new(above).parent() {
-            Some(parent) => above = parent.as_str(),
-            None => break,
-        }
+pub(crate) fn project_root<T: Look>(
+    alloc: Global,
+    tree: &mut T,
+    folder: &str,
+) -> Result<String, AllocError> {
+    match repository_above(alloc, tree, folder)? {
+        Some(found) => Ok(found.root),
+        None if folder == "/" => Ok(String::new(alloc)),
+        None => String::from_str(alloc, folder),
     }
-    Ok(before_names(folder))
-}
-
-/// A folder without the slash at its end.
-fn before_names(folder: &str) -> &str {
-    if folder == "/" { "" } else { folder }
 }
 
 impl StateFolder {
@@ -90,6 +88,16 @@ impl StateFolder {
         format!(in alloc; "{folder}/state~part")
     }
 
+    /// Takes away a state that others may write to.
+    pub(crate) fn remove_shared(&self, rt: &HostRuntime) -> Result<(), AllocError> {
+        if self.is_shared {
+            let folder = self.path.as_str();
+            let file = format!(in rt.alloc(); "{folder}/state")?;
+            let _ = fs::remove_file(rt, file.as_str());
+        }
+        Ok(())
+    }
+
     /// Makes the folder, if it is not there. Whether that works shows when the file is made.
     pub(crate) fn make(&self, rt: &HostRuntime) {
         let mut maker = DirBuilder::new();
@@ -99,7 +107,8 @@ impl StateFolder {
     }
 }
 
-/// Adds a folder, if it is missing or the user's own, and so is the state file in it.
+/// Adds a folder, if it is missing or the user's own, and so is the state file in it. Others may
+/// not write to the folder.
 fn add_folder(
     rt: &HostRuntime,
     folder: String,
@@ -108,15 +117,20 @@ fn add_folder(
 ) -> Result<(), AllocError> {
     let path = folder.as_str();
     let file = format!(in rt.alloc(); "{path}/state")?;
-    if is_free(rt, path, user) && is_own_file(rt, file.as_str(), user) {
-        folders.push(StateFolder { path: folder })?;
+    if !is_free(rt, path, user) || !is_own_file(rt, file.as_str(), user) {
+        return Ok(());
     }
+    let is_shared = fs::symlink_metadata(rt, file.as_str()).is_ok_and(|there| is_shared(&there));
+    folders.push(StateFolder {
+        path: folder,
+        is_shared,
+    })?;
     Ok(())
 }
 
-/// The user of this process.
-fn user_of(rt: &HostRuntime) -> Option<u32> {
-    Some(fs::metadata(rt, "/proc/self").ok()?.uid())
+/// Whether others may write there.
+fn is_shared(there: &Metadata) -> bool {
+    there.mode() & OTHERS_WRITE != 0
 }
 
 /// What is at a path, if it is no link and the user's own.
@@ -134,9 +148,12 @@ fn is_own_folder(rt: &HostRuntime, path: &str, user: u32) -> bool {
     own_item(rt, path, user).is_some_and(|there| there.is_dir() && there.mode() & OWNER_WRITES != 0)
 }
 
-/// Whether the user has a folder there, or nothing is there.
+/// Whether the user has a folder there that nobody else may write to, or nothing is there.
 fn is_free(rt: &HostRuntime, path: &str, user: u32) -> bool {
-    fs::symlink_metadata(rt, path).is_err() || is_own_folder(rt, path, user)
+    match fs::symlink_metadata(rt, path) {
+        Ok(there) => is_own_folder(rt, path, user) && !is_shared(&there),
+        Err(_) => true,
+    }
 }
 
 /// Whether the user has a regular file there, or nothing is there.

@@ -22,7 +22,7 @@ use crate::mem_items::{
 };
 use crate::types::{MemEntry, MemItem, MemTree, Names};
 use cs_tree::{
-    Kind, Listing, Look, MemSource, Seen, Source, Tree, TreeFault, counted_answer, has_nul,
+    Kind, Listing, Look, MemSource, Seen, Source, Stamp, Tree, TreeFault, counted_answer, has_nul,
     is_clean,
 };
 use std::alloc::{AllocError, AllocFailed, Global};
@@ -345,6 +345,24 @@ impl Look for MemTree {
     {
         let kind = self.kind(path)?;
         Ok(Seen { kind, stamp: None })
+    }
+
+    /// Allocates nothing.
+    fn open_file(&mut self, path: &str) -> Result<Option<Stamp>, TreeFault>
+        ensures answer { OpensFile (Some (mem_snapshot self.old)) path.now result
+            (left_open self.new) }
+        ensures stamp { IfOk result (λ stamp. stamp ≡ None) }
+        ensures keeps { Some (mem_snapshot self.new) ≡ Some (mem_snapshot self.old) }
+        ensures step { mem_tree_step self.new ≡ mem_tree_step self.old }
+        ensures requested { RequestsPath (⟦<MemTree as Tree>⟧.longest_requested self.old)
+            (⟦<MemTree as Tree>⟧.longest_requested self.new) path.now }
+        ensures counts { Some (mem_read_counts self.new)
+            ≡ Some (after_open (mem_read_counts self.old)) }
+        ensures failed { ⟦<MemTree as Tree>⟧.failed self.new
+            ≡ count_after is_tree_failure result (⟦<MemTree as Tree>⟧.failed self.old) }
+    {
+        self.open(path)?;
+        Ok(None)
     }
 }
 

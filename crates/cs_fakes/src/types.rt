@@ -106,7 +106,7 @@ pub(crate) struct MemVisit {
 }
 
 /// What a crash may leave at FILE.
-#[derive(Debug, PartialEq, Drop)]
+#[derive(PartialEq, Drop)]
 pub enum MemLeft {
     /// No file.
     Absent,

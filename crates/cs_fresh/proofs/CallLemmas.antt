@@ -3,7 +3,8 @@ use Rattle.std.proofs.Common.{◌≡◌, ◌≢◌, map, ℕ, Bool, true, false,
 use Rattle.std.specs.Prelude.{Result, Ok, Err, IfOk, IsSomeAnd, string_bytes}
 use Rattle.cs_syntax.specs.Matching.{Tree}
 use Rattle.cs_match.specs.SameLines.{MatchSameLines, MatchSameSpans}
-use Rattle.cs_tree.specs.Snapshot.{Snapshot, item_at}
+use Rattle.cs_tree.specs.Snapshot.{Item, Snapshot, item_at}
+use Rattle.cs_tree.specs.StreamModels.{SourceModel}
 use Rattle.cs_listing.specs.Choices.{Settings}
 use Rattle.cs_listing.specs.FolderReads.{InTree}
 use Rattle.cs_listing.specs.Listing.{TreeItems}
@@ -13,10 +14,12 @@ use Rattle.cs_command.specs.declared.request.Request.{Request}
 use Rattle.cs_fresh.specs.Calls.{AnswersRequest, DoesProject, HasBase, IfRead, IsScopeOf, IsSearchFor, ListsFor, SearchesFor, name_end}
 use Rattle.cs_fresh.specs.Knowledge.{HoldsFor, HoldsIfAsked, SearchedTree, asked_as, by_names}
 use Rattle.cs_fresh.specs.Projects.{FindsInProject, ListsProject, SearchesProject}
+use Rattle.cs_fresh.specs.Sources.{InInput, unread}
 use Rattle.cs_fresh.specs.declared.call.ProjectCall.{ProjectCall}
 use Rattle.cs_fresh.specs.declared.file_search.FileSearch.{FileSearch}
 use Rattle.cs_fresh.specs.declared.knowledge.AskedSearch.{AskedSearch}
 use Rattle.cs_fresh.specs.declared.scope.Scope.{Scope}
+use Rattle.cs_fresh.proofs.ScopeLemmas.{if_input}
 
 pub lists_for : {E : Type 0} (snapshot : Option Snapshot) (call : ProjectCall) (request : Request) (scope : Scope)
     (end given later : List ℕ) (result : Result ℕ E) → IsScopeOf call request scope → end ≡ name_end request →
@@ -31,28 +34,37 @@ lists_for (Some tree) call request scope end given later (Ok status) is ends lis
 
 -- what is said if more is known
 trusted : (Knows Trusted : FileSearch → Type 0) → ((search : FileSearch) → Trusted search → Knows search) →
-    (items : TreeItems) (call : ProjectCall) (request : Request) (silent : Bool) (given later : List ℕ) (status : ℕ) →
-    SearchesFor Knows items call request silent given later status → SearchesFor Trusted items call request silent given later status
-trusted Knows Trusted holds items call request false given later status says = λ right.
+    (items : TreeItems) (input : Item) (call : ProjectCall) (request : Request) (silent : Bool) (given later : List ℕ) (status : ℕ) →
+    SearchesFor Knows items input call request silent given later status →
+    SearchesFor Trusted items input call request silent given later status
+trusted Knows Trusted holds items input call request false given later status says = λ right.
     let all = says right in (all.0, all.1, all.2, all.3, λ known. all.4 (holds all.1 known))
-trusted Knows Trusted holds items call request true given later status says = (
+trusted Knows Trusted holds items input call request true given later status says = (
   says.0,
   λ right.
       let all = says.1 right in (all.0, all.1, all.2, all.3, λ known. all.4 (holds (by_names all.1) known)),
 )
 
+trusted_in : (Knows Trusted : FileSearch → Type 0) → ((search : FileSearch) → Trusted search → Knows search) →
+    (snapshot : Option Snapshot) (input : Item) (call : ProjectCall) (request : Request) (silent : Bool) (given later : List ℕ) (status : ℕ) →
+    InTree snapshot (λ items. SearchesFor Knows items input call request silent given later status) →
+    InTree snapshot (λ items. SearchesFor Trusted items input call request silent given later status)
+trusted_in Knows Trusted holds None input call request silent given later status says = tt
+trusted_in Knows Trusted holds (Some tree) input call request silent given later status says =
+    trusted Knows Trusted holds (item_at tree) input call request silent given later status says
+
 -- a search over what is read, or over nothing
 pub searches_if_read : {E : Type 0} (Own Given : SearchedTree → Type 0) (stamps : Snapshot → Stamps) (snapshot : Option Snapshot)
-    (call : ProjectCall) (request : Request) (silent : Bool) (given later : List ℕ) (result : Result ℕ E) →
+    (model : Option SourceModel) (call : ProjectCall) (request : Request) (silent : Bool) (given later : List ℕ) (result : Result ℕ E) →
     ((search : FileSearch) → IfRead request (HoldsFor Given stamps snapshot) search → HoldsFor Own stamps snapshot search) →
-    IfOk result (λ status. InTree snapshot (λ items. SearchesFor (HoldsFor Own stamps snapshot) items call request silent given later status)) →
-    IfOk result (λ status. InTree snapshot
-    (λ items. SearchesFor (IfRead request (HoldsFor Given stamps snapshot)) items call request silent given later status))
-searches_if_read Own Given stamps snapshot call request silent given later (Err fault) holds says = tt
-searches_if_read Own Given stamps None call request silent given later (Ok status) holds says = tt
-searches_if_read Own Given stamps (Some tree) call request silent given later (Ok status) holds says =
-    trusted (HoldsFor Own stamps (Some tree)) (IfRead request (HoldsFor Given stamps (Some tree))) holds (item_at tree) call request silent
-    given later status says
+    IfOk result (λ status. InInput model (λ input. InTree snapshot
+    (λ items. SearchesFor (HoldsFor Own stamps snapshot) items input call request silent given later status))) →
+    IfOk result (λ status. InInput model (λ input. InTree snapshot
+    (λ items. SearchesFor (IfRead request (HoldsFor Given stamps snapshot)) items input call request silent given later status)))
+searches_if_read Own Given stamps snapshot model call request silent given later (Err fault) holds says = tt
+searches_if_read Own Given stamps snapshot model call request silent given later (Ok status) holds says =
+    if_input (unread false model) (λ input. trusted_in (HoldsFor Own stamps snapshot) (IfRead request (HoldsFor Given stamps snapshot)) holds
+    snapshot input call request silent given later status) says
 
 -- nothing is known
 pub nothing_known : (stamps : Snapshot → Stamps) (snapshot : Option Snapshot) (search : FileSearch) → HoldsFor (λ _. Unit {0}) stamps snapshot search
@@ -96,52 +108,72 @@ asked_for Old New stamps snapshot now call request scope search asked false same
 
 -- what is known, and the stamps of a tree
 module _ (Holds : SearchedTree → Type 0) (stamps : Snapshot → Stamps) where
-  pub searches_for : {E : Type 0} (snapshot now : Option Snapshot) (call : ProjectCall) (request : Request) (scope : Scope)
-      (search : FileSearch) (given later : List ℕ) (result : Result ℕ E) → now ≡ snapshot → IsScopeOf call request scope →
-      InTree snapshot (λ items. IsSearchFor items call request scope search) →
-      IfOk result (λ status. HoldsFor Holds stamps now search → InTree now (λ items. SearchesProject items scope search given later status)) →
-      IfOk result (λ status. InTree snapshot (λ items. SearchesFor (HoldsFor Holds stamps snapshot) items call request false given later status))
-  searches_for snapshot now call request scope search given later (Err fault) same is for searches = tt
-  searches_for None now call request scope search given later (Ok status) same is for searches = tt
-  searches_for (Some tree) now call request scope search given later (Ok status) same is for searches = λ right. (
+  search_done : (snapshot now : Option Snapshot) (call : ProjectCall) (request : Request) (scope : Scope) (search : FileSearch)
+      (given later : List ℕ) (status : ℕ) → now ≡ snapshot → IsScopeOf call request scope →
+      InTree snapshot (λ items. IsSearchFor items call request scope search) → (input : Item) →
+      (HoldsFor Holds stamps now search → InTree now (λ items. SearchesProject items input scope search given later status)) →
+      InTree snapshot (λ items. SearchesFor (HoldsFor Holds stamps snapshot) items input call request false given later status)
+  search_done None now call request scope search given later status same is for input searches = tt
+  search_done (Some tree) now call request scope search given later status same is for input searches = λ right. (
     scope,
     search,
     is,
     for,
-    λ known. subst (λ s. InTree s (λ items. SearchesProject items scope search given later status)) same
+    λ known. subst (λ s. InTree s (λ items. SearchesProject items input scope search given later status)) same
         (searches (subst (λ s. HoldsFor Holds stamps s search) (sym same) known)),
   )
 
-  pub finds_for : {E : Type 0} (snapshot now : Option Snapshot) (call : ProjectCall) (request : Request) (scope : Scope)
-      (search : FileSearch) (given later : List ℕ) (result : Result ℕ E) → now ≡ snapshot → later ≡ given →
-      IsScopeOf call request scope → InTree snapshot (λ items. IsSearchFor items call request scope search) →
-      IfOk result (λ status. HoldsFor Holds stamps now (by_names search) → InTree now (λ items. FindsInProject items scope search status)) →
-      IfOk result (λ status. InTree snapshot (λ items. SearchesFor (HoldsFor Holds stamps snapshot) items call request true given later status))
-  finds_for snapshot now call request scope search given later (Err fault) same nothing is for finds = tt
-  finds_for None now call request scope search given later (Ok status) same nothing is for finds = tt
-  finds_for (Some tree) now call request scope search given later (Ok status) same nothing is for finds = (
+  pub searches_for : {E : Type 0} (snapshot now : Option Snapshot) (model : Option SourceModel) (call : ProjectCall) (request : Request)
+      (scope : Scope) (search : FileSearch) (given later : List ℕ) (result : Result ℕ E) → now ≡ snapshot → IsScopeOf call request scope →
+      InTree snapshot (λ items. IsSearchFor items call request scope search) →
+      IfOk result (λ status. InInput model (λ input. HoldsFor Holds stamps now search →
+      InTree now (λ items. SearchesProject items input scope search given later status))) →
+      IfOk result (λ status. InInput model (λ input. InTree snapshot
+      (λ items. SearchesFor (HoldsFor Holds stamps snapshot) items input call request false given later status)))
+  searches_for snapshot now model call request scope search given later (Err fault) same is for searches = tt
+  searches_for snapshot now model call request scope search given later (Ok status) same is for searches =
+      if_input (unread false model) (search_done snapshot now call request scope search given later status same is for) searches
+
+  find_done : (snapshot now : Option Snapshot) (call : ProjectCall) (request : Request) (scope : Scope) (search : FileSearch)
+      (given later : List ℕ) (status : ℕ) → now ≡ snapshot → later ≡ given → IsScopeOf call request scope →
+      InTree snapshot (λ items. IsSearchFor items call request scope search) → (input : Item) →
+      (HoldsFor Holds stamps now (by_names search) → InTree now (λ items. FindsInProject items input scope search status)) →
+      InTree snapshot (λ items. SearchesFor (HoldsFor Holds stamps snapshot) items input call request true given later status)
+  find_done None now call request scope search given later status same nothing is for input finds = tt
+  find_done (Some tree) now call request scope search given later status same nothing is for input finds = (
     nothing,
     λ right. (
       scope,
       search,
       is,
       for,
-      λ known. subst (λ s. InTree s (λ items. FindsInProject items scope search status)) same
+      λ known. subst (λ s. InTree s (λ items. FindsInProject items input scope search status)) same
           (finds (subst (λ s. HoldsFor Holds stamps s (by_names search)) (sym same) known)),
     ),
   )
 
-  pub project_done : (snapshot now : Option Snapshot) (call : ProjectCall) (base : Settings) (request : Request) (given later : List ℕ)
-      (status result : ℕ) → (result ≢ 2 → result ≡ status) → now ≡ snapshot → InTree snapshot (λ items. HasBase items call base) →
-      IsRequest (map string_bytes call.words.now) base request →
-      InTree now (λ items. AnswersRequest (HoldsFor Holds stamps now) items call request given later status) →
-      InTree snapshot (λ items. DoesProject (HoldsFor Holds stamps snapshot) items call given later result)
-  project_done None now call base request given later status result right same has is answers = tt
-  project_done (Some tree) now call base request given later status result right same has is answers = λ differs. (
+  pub finds_for : {E : Type 0} (snapshot now : Option Snapshot) (model : Option SourceModel) (call : ProjectCall) (request : Request)
+      (scope : Scope) (search : FileSearch) (given later : List ℕ) (result : Result ℕ E) → now ≡ snapshot → later ≡ given →
+      IsScopeOf call request scope → InTree snapshot (λ items. IsSearchFor items call request scope search) →
+      IfOk result (λ status. InInput model (λ input. HoldsFor Holds stamps now (by_names search) →
+      InTree now (λ items. FindsInProject items input scope search status))) →
+      IfOk result (λ status. InInput model (λ input. InTree snapshot
+      (λ items. SearchesFor (HoldsFor Holds stamps snapshot) items input call request true given later status)))
+  finds_for snapshot now model call request scope search given later (Err fault) same nothing is for finds = tt
+  finds_for snapshot now model call request scope search given later (Ok status) same nothing is for finds =
+      if_input (unread false model) (find_done snapshot now call request scope search given later status same nothing is for) finds
+
+  pub project_done : (snapshot now : Option Snapshot) (input : Item) (call : ProjectCall) (base : Settings) (request : Request)
+      (given later : List ℕ) (status result : ℕ) → (result ≢ 2 → result ≡ status) → now ≡ snapshot →
+      InTree snapshot (λ items. HasBase items call base) → IsRequest (map string_bytes call.words.now) base request →
+      InTree now (λ items. AnswersRequest (HoldsFor Holds stamps now) items input call request given later status) →
+      InTree snapshot (λ items. DoesProject (HoldsFor Holds stamps snapshot) items input call given later result)
+  project_done None now input call base request given later status result right same has is answers = tt
+  project_done (Some tree) now input call base request given later status result right same has is answers = λ differs. (
     base,
     request,
     has,
     is,
-    subst (λ n. AnswersRequest (HoldsFor Holds stamps (Some tree)) (item_at tree) call request given later n) (sym (right differs))
-        (subst (λ s. InTree s (λ items. AnswersRequest (HoldsFor Holds stamps s) items call request given later status)) same answers),
+    subst (λ n. AnswersRequest (HoldsFor Holds stamps (Some tree)) (item_at tree) input call request given later n) (sym (right differs))
+        (subst (λ s. InTree s (λ items. AnswersRequest (HoldsFor Holds stamps s) items input call request given later status)) same answers),
   )

@@ -10,12 +10,12 @@ use Rattle.cs_tree.specs.TreeReaders.{open_model}
 use Rattle.cs_tree.specs.declared.fault.TreeFault.{TreeFault}
 use Rattle.cs_tree.specs.declared.fault.TreeFault.TheVariants.{Missing, Denied, Output, Failed, Memory}
 use Rattle.cs_listing.specs.FolderReads.{InTree}
-use Rattle.cs_project.specs.Printed.{PrintsItem}
-use Rattle.cs_project.specs.Project.{searched_as}
-use Rattle.cs_project.specs.Streams.{PrintsFile, is_whole}
-use Rattle.cs_project.specs.declared.binary.BinaryFiles.{BinaryFiles}
-use Rattle.cs_project.specs.declared.rows.Page.{Page}
-use Rattle.cs_project.specs.declared.stream.Streamed.{Streamed}
+use Rattle.cs_lines.specs.Printed.{PrintsItem}
+use Rattle.cs_lines.specs.Project.{searched_as}
+use Rattle.cs_lines.specs.Streams.{PrintsFile, is_whole}
+use Rattle.cs_lines.specs.declared.binary.BinaryFiles.{BinaryFiles}
+use Rattle.cs_lines.specs.declared.rows.Page.{Page}
+use Rattle.cs_lines.specs.declared.stream.Streamed.{Streamed}
 use Rattle.cs_fresh.specs.Reports.{MayReport}
 use Rattle.cs_fresh.specs.Searched.{ShowsItems, binary_as}
 use Rattle.cs_fresh.specs.Sources.{ShowsSource}
@@ -48,7 +48,7 @@ ShowsPath old new name named snapshot path given later =
 
 -- a file that was opened
 item_opened : (item : Item) (model : Option SourceModel) (old new : FileSearch) (name : List ℕ) (named : Bool) (given later : List ℕ) →
-    OpensFileAs (Ok tt) (opening_of item) model → ShowsSource old new name named model given later →
+    OpensFileAs {A = Unit {0}} (Ok tt) (opening_of item) model → ShowsSource old new name named model given later →
     ShowsItems old new ((name, item, named) ∷ []) given later
 item_opened (folder names unnamed) model old new name named given later opens shows = absurd opens
 item_opened (file bytes) model old new name named given later opens shows = subst (λ m. ShowsSource old new name named m given later) opens shows
@@ -57,7 +57,7 @@ item_opened other model old new name named given later opens shows = absurd open
 item_opened (bad fault) model old new name named given later opens shows = absurd opens
 
 pub path_opened : (snapshot : Option Snapshot) (opened : Option SourceModel) (old new : FileSearch) (name : List ℕ) (named : Bool)
-    (path given later : List ℕ) → OpensFile snapshot path (Ok tt) opened →
+    (path given later : List ℕ) → OpensFile {A = Unit {0}} snapshot path (Ok tt) opened →
     ShowsSource old new name named (open_model snapshot opened) given later → ShowsPath old new name named snapshot path given later
 path_opened None opened old new name named path given later opens shows = tt
 path_opened (Some tree) opened old new name named path given later opens shows =
@@ -99,7 +99,7 @@ path_reported (Some tree) old new name named path given later wrong =
 
 -- a file that was not opened
 pub path_refused : (snapshot : Option Snapshot) (fault : TreeFault) (opened : Option SourceModel) (old new : FileSearch)
-    (name : List ℕ) (named : Bool) (path given : List ℕ) → OpensFile snapshot path (Err fault) opened →
+    (name : List ℕ) (named : Bool) (path given : List ℕ) → OpensFile {A = Unit {0}} snapshot path (Err fault) opened →
     MayReport fault old.reports.wrong new.reports.wrong → new.marked ≡ old.marked →
     ShowsPath old new name named snapshot path given given
 path_refused None fault opened old new name named path given opens reports same = tt

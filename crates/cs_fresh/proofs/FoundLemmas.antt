@@ -1,7 +1,7 @@
 -- Marked lines that a search has come to.
 use denote.Ref.{Bor}
-use Rattle.std.proofs.Common.{◌≡◌, ◌<◌, ℕ, zero, suc, map, Bool, true, false, ◌||◌, List, [], ◌∷◌, length, get_or, Option, Some, None, Ok, refl, sym, ap, subst, ◌∙◌, arith}
-use Rattle.std.specs.Prelude.{string_bytes, Contains}
+use Rattle.std.proofs.Common.{◌≡◌, ◌<◌, ℕ, zero, suc, take, Bool, true, false, ◌||◌, List, [], ◌∷◌, ◌++◌, length, get_or, Option, Some, None, Ok, refl, sym, ap, subst, ◌∙◌, arith}
+use Rattle.std.specs.Prelude.{string_bytes}
 use Rattle.std.proofs.lemmas.Bool.{false≢true}
 use Rattle.cs_tree.specs.PathParts.{texts}
 use Rattle.cs_tree.specs.Snapshot.{Item, Snapshot, item_at, folder, file, cut, other, bad}
@@ -14,13 +14,13 @@ use Rattle.cs_listing.specs.FolderReads.{InTree}
 use Rattle.cs_listing.specs.Listing.{TreeItems, is_found}
 use Rattle.cs_listing.specs.PathNames.{names_along}
 use Rattle.cs_listing.specs.Walk.{IsWalkIn, is_left, path_text}
-use Rattle.cs_project.specs.Project.{text_shown}
-use Rattle.cs_project.specs.Streams.{FindsInFile}
-use Rattle.cs_project.specs.declared.binary.BinaryFiles.{BinaryFiles}
-use Rattle.cs_project.specs.declared.rows.Page.{Page}
-use Rattle.cs_project.specs.declared.stream.Streamed.{Streamed}
+use Rattle.cs_lines.specs.Project.{text_shown}
+use Rattle.cs_lines.specs.Streams.{FindsInFile}
+use Rattle.cs_lines.specs.declared.binary.BinaryFiles.{BinaryFiles}
+use Rattle.cs_lines.specs.declared.rows.Page.{Page}
+use Rattle.cs_lines.specs.declared.stream.Streamed.{Streamed}
 use Rattle.cs_fresh.specs.Names.{name_below, name_of, prefix_of, with_slash}
-use Rattle.cs_fresh.specs.Scopes.{IsAnyNamed, IsAt, IsFileBelow, IsMeant, IsNamed}
+use Rattle.cs_fresh.specs.Scopes.{IsAnyNamed, IsAt, IsAtPath, IsFileBelow, IsMeant, IsNamed, IsNamedIf, is_input, left_by}
 use Rattle.cs_fresh.specs.Searched.{IsMarked, KeepsForm, NamedItem, binary_as, shown_of}
 use Rattle.cs_fresh.specs.Sources.{FindsAmong, FindsInSource}
 use Rattle.cs_fresh.specs.Walked.{IsLeft, IsPathOf, WalksFolder, named_item}
@@ -81,7 +81,7 @@ found_source old new page name named binaries (Some source) streamed finds chose
     )
 
 item_found : (item : Item) (model : Option SourceModel) (old new : FileSearch) (name : List ℕ) (named : Bool) →
-    OpensFileAs (Ok tt) (opening_of item) model → FindsInSource old new name named model →
+    OpensFileAs {A = Unit {0}} (Ok tt) (opening_of item) model → FindsInSource old new name named model →
     FindsAmong old new (λ one. one ≡ (name, item, named))
 item_found (folder names unnamed) model old new name named opens finds = absurd opens
 item_found (file bytes) model old new name named opens finds = subst (λ m. FindsInSource old new name named m) opens finds
@@ -95,7 +95,7 @@ item_found other model old new name named opens finds = absurd opens
 item_found (bad fault) model old new name named opens finds = absurd opens
 
 pub path_found : (snapshot : Option Snapshot) (opened : Option SourceModel) (old new : FileSearch) (name : List ℕ) (named : Bool)
-    (path : List ℕ) → OpensFile snapshot path (Ok tt) opened → FindsInSource old new name named (open_model snapshot opened) →
+    (path : List ℕ) → OpensFile {A = Unit {0}} snapshot path (Ok tt) opened → FindsInSource old new name named (open_model snapshot opened) →
     InTree snapshot (λ items. FindsAmong old new (λ one. one ≡ (name, items path, named)))
 path_found None opened old new name named path opens finds = tt
 path_found (Some tree) opened old new name named path opens finds = item_found (item_at tree path) opened old new name named opens finds
@@ -162,56 +162,77 @@ folder_found (Some tree) now settings at word walk old new same walks has =
 pub folder_one : (snapshot now : Option Snapshot) (settings : Settings) (here word path : List ℕ) (old new : FileSearch) →
     now ≡ snapshot → InTree snapshot (λ items. IsPathOf items here word path kind.Folder) →
     InTree now (λ items. FindsAmong old new (IsFileBelow items settings path word)) →
-    InTree snapshot (λ items. FindsAmong old new (IsNamed items settings here word))
+    InTree snapshot (λ items. FindsAmong old new (IsAtPath items settings here word))
 folder_one None now settings here word path old new same is has = tt
 folder_one (Some tree) now settings here word path old new same is has =
     let items = item_at tree in
-    found_in old new (IsFileBelow items settings path word) (IsNamed items settings here word)
+    found_in old new (IsFileBelow items settings path word) (IsAtPath items settings here word)
     (λ one file. for_folder items settings here word path (λ leads p. IsAt items settings leads p word one) is file)
     (subst (λ s. InTree s (λ items. FindsAmong old new (IsFileBelow items settings path word))) same has)
 
 pub file_one : (snapshot now : Option Snapshot) (settings : Settings) (here word path : List ℕ) (old new : FileSearch) →
     now ≡ snapshot → InTree snapshot (λ items. IsPathOf items here word path kind.File) →
     InTree now (λ items. FindsAmong old new (λ one. one ≡ (word, items path, true))) →
-    InTree snapshot (λ items. FindsAmong old new (IsNamed items settings here word))
+    InTree snapshot (λ items. FindsAmong old new (IsAtPath items settings here word))
 file_one None now settings here word path old new same is has = tt
 file_one (Some tree) now settings here word path old new same is has =
     let items = item_at tree in
-    found_in old new (λ one. one ≡ (word, items path, true)) (IsNamed items settings here word)
+    found_in old new (λ one. one ≡ (word, items path, true)) (IsAtPath items settings here word)
     (λ one file. for_file items settings here word path (λ leads p. IsAt items settings leads p word one) is file)
     (subst (λ s. InTree s (λ items. FindsAmong old new (λ one. one ≡ (word, items path, true)))) same has)
 
-contains_mapped : {X Y : Type 0} (f : X → Y) (xs : List X) (i : ℕ) (d : X) → i < length xs → Contains (map f xs) (f (get_or xs i d))
-contains_mapped f [] i d low = let wrong : ⊥ = omega (arith, low) in absurd wrong
-contains_mapped f (x ∷ xs) zero d low = (0, omega arith, refl)
-contains_mapped f (x ∷ xs) (suc i) d low =
-    let h = contains_mapped f xs i d (omega (arith, low)) in (suc h.0, omega (arith, h.1), h.2)
+-- the input, and a path
+pub input_one : (snapshot : Option Snapshot) (settings : Settings) (here word : List ℕ) (input : Item) (is : Bool) (old new : FileSearch) →
+    is ≡ true → is ≡ is_input word → FindsAmong old new (λ one. one ≡ (word, input, true)) →
+    InTree snapshot (λ items. FindsAmong old new (IsNamed items settings here input word))
+input_one None settings here word input is old new so names has = tt
+input_one (Some tree) settings here word input is old new so names has =
+    subst (λ b. FindsAmong old new (IsNamedIf (item_at tree) settings here b input word)) (sym so ∙ names) has
+
+pub path_one : (snapshot : Option Snapshot) (settings : Settings) (here word : List ℕ) (input : Item) (is : Bool) (old new : FileSearch) →
+    is ≡ false → is ≡ is_input word → InTree snapshot (λ items. FindsAmong old new (IsAtPath items settings here word)) →
+    InTree snapshot (λ items. FindsAmong old new (IsNamed items settings here input word))
+path_one snapshot settings here word input is old new so names has =
+    subst (λ b. InTree snapshot (λ items. FindsAmong old new (IsNamedIf items settings here b input word))) (sym so ∙ names) has
+
+-- the words before one, and those after it
+words_around : (words : List (Bor (List ℕ))) (i : ℕ) (none : Bor (List ℕ)) → i < length words →
+    (after : List (List ℕ)) × (texts words ≡ texts (take i words) ++ (get_or words i none).now ∷ after)
+words_around [] i none low = let wrong : ⊥ = omega (arith, low) in absurd wrong
+words_around (word ∷ words) zero none low = (texts words, refl)
+words_around (word ∷ words) (suc i) none low =
+    let h = words_around words i none (omega (arith, low)) in (h.0, ap (λ ws. word.now ∷ ws) h.1)
 
 -- some of what the words name
-abbrev pub HasFoundNamed : Option Snapshot → Settings → List ℕ → List (List ℕ) → FileSearch → FileSearch → Type 0
-HasFoundNamed snapshot settings here words old new =
-    InTree snapshot (λ items. FindsAmong old new (IsAnyNamed items settings here words))
+abbrev pub HasFoundNamed : Option Snapshot → Settings → List ℕ → Item → List (List ℕ) → FileSearch → FileSearch → Type 0
+HasFoundNamed snapshot settings here input words old new =
+    InTree snapshot (λ items. FindsAmong old new (IsAnyNamed items settings here input words))
 
 -- one more word
-pub words_found : (snapshot now : Option Snapshot) (settings : Settings) (here : List ℕ) (words : List (Bor (List ℕ))) (i : ℕ) (none : Bor (List ℕ))
-    (old mid new : FileSearch) → i < length words → now ≡ snapshot → KeepsForm old mid → KeepsForm mid new →
-    HasFoundNamed snapshot settings here (texts words) old mid →
-    InTree now (λ items. FindsAmong mid new (IsNamed items settings here (get_or words i none).now)) →
-    HasFoundNamed snapshot settings here (texts words) old new
-words_found None now settings here words i none old mid new low same kept keeps had has = tt
-words_found (Some tree) now settings here words i none old mid new low same kept keeps had has =
+pub words_found : (snapshot now : Option Snapshot) (settings : Settings) (here : List ℕ) (input left : Item) (words : List (Bor (List ℕ))) (i : ℕ)
+    (none : Bor (List ℕ)) (old mid new : FileSearch) → i < length words → now ≡ snapshot → left_by (texts (take i words)) input ≡ left →
+    KeepsForm old mid → KeepsForm mid new → HasFoundNamed snapshot settings here input (texts words) old mid →
+    InTree now (λ items. FindsAmong mid new (IsNamed items settings here left (get_or words i none).now)) →
+    HasFoundNamed snapshot settings here input (texts words) old new
+words_found None now settings here input left words i none old mid new low same leaves kept keeps had has = tt
+words_found (Some tree) now settings here input left words i none old mid new low same leaves kept keeps had has =
     let items = item_at tree in
     let word = (get_or words i none).now in
-    found_more old mid new (IsAnyNamed items settings here (texts words)) kept keeps had
-    (found_in mid new (IsNamed items settings here word) (IsAnyNamed items settings here (texts words))
-    (λ one is. (word, contains_mapped (λ (w : Bor (List ℕ)). w.now) words i none low, is))
-    (subst (λ s. InTree s (λ items. FindsAmong mid new (IsNamed items settings here word))) same has))
+    let around = words_around words i none low in
+    found_more old mid new (IsAnyNamed items settings here input (texts words)) kept keeps had
+    (found_in mid new (IsNamed items settings here left word) (IsAnyNamed items settings here input (texts words))
+    (λ one is. (texts (take i words), word, around.0, around.1, subst (λ item. IsNamed items settings here item word one) (sym leaves) is))
+    (subst (λ s. InTree s (λ items. FindsAmong mid new (IsNamed items settings here left word))) same has))
+
+none_named : (before after : List (List ℕ)) (word : List ℕ) → [] ≡ before ++ word ∷ after → ⊥
+none_named [] after word is = let e : 0 ≡ length (word ∷ after) = ap length is in omega (arith, e)
+none_named (first ∷ before) after word is = let e : 0 ≡ length (first ∷ (before ++ word ∷ after)) = ap length is in omega (arith, e)
 
 -- the words of a scope
-pub meant : (snapshot : Option Snapshot) (settings : Settings) (here : List ℕ) (words : List (List ℕ)) (old new : FileSearch) →
-    HasFoundNamed snapshot settings here words old new → InTree snapshot (λ items. FindsAmong old new (IsMeant items settings here words))
-meant None settings here words old new has = tt
-meant (Some tree) settings here [] old new has =
-    found_in old new (IsAnyNamed (item_at tree) settings here []) (IsFileBelow (item_at tree) settings here [])
-    (λ one is. absurd (omega (arith, is.1.1))) has
-meant (Some tree) settings here (word ∷ words) old new has = has
+pub meant : (snapshot : Option Snapshot) (settings : Settings) (here : List ℕ) (input : Item) (words : List (List ℕ)) (old new : FileSearch) →
+    HasFoundNamed snapshot settings here input words old new → InTree snapshot (λ items. FindsAmong old new (IsMeant items settings here input words))
+meant None settings here input words old new has = tt
+meant (Some tree) settings here input [] old new has =
+    found_in old new (IsAnyNamed (item_at tree) settings here input []) (IsFileBelow (item_at tree) settings here [])
+    (λ one is. absurd (none_named is.0 is.2 is.1 is.3)) has
+meant (Some tree) settings here input (word ∷ words) old new has = has

@@ -5,9 +5,9 @@ use Rattle.cs_tree.specs.Snapshot.{Snapshot, item_at}
 use Rattle.cs_tree.specs.declared.tree.Stamp.{Stamp}
 use Rattle.cs_listing.specs.FolderReads.{InTree}
 use Rattle.cs_listing.specs.Stamps.{InStamps, Stamps}
-use Rattle.cs_project.specs.Project.{ItemShown}
-use Rattle.cs_project.specs.Shown.{between, following}
-use Rattle.cs_project.specs.declared.form.ShowOptions.{ShowOptions}
+use Rattle.cs_lines.specs.Project.{ItemShown}
+use Rattle.cs_lines.specs.Shown.{between, following}
+use Rattle.cs_lines.specs.declared.form.ShowOptions.{ShowOptions}
 use Rattle.cs_fresh.specs.Knowledge.{HoldsAsBefore, HoldsFor, SearchedTree, SkipsNothingShown}
 use Rattle.cs_fresh.specs.Searched.{KeepsForm, NamedItem, ShowsItems}
 use Rattle.cs_fresh.specs.declared.file_search.FileSearch.{FileSearch}

@@ -7,6 +7,7 @@ mod WalkedLemmas
 mod ListedLemmas
 mod ShownLemmas
 mod ScopeLemmas
+mod InputLemmas
 mod FoundLemmas
 mod KnowledgeLemmas
 mod NotedLemmas

@@ -3,7 +3,7 @@ use Rattle.std.proofs.Common.{◌≡◌, ℕ, true, false, List, [], ◌∷◌, 
 use Rattle.std.specs.Prelude.{string_bytes}
 use Rattle.std.proofs.lemmas.List.{flat_map_more}
 use Rattle.std.proofs.lemmas.Grind.{flat_map-append}
-use Rattle.cs_tree.specs.Snapshot.{Snapshot, item_at}
+use Rattle.cs_tree.specs.Snapshot.{Item, Snapshot, item_at}
 use Rattle.cs_listing.specs.FolderReads.{InTree}
 use Rattle.cs_fresh.specs.Searched.{NamedItem, names_printed}
 use Rattle.cs_fresh.specs.declared.walks.NamedPath.{NamedPath}
@@ -35,6 +35,11 @@ pub lists_one : (snapshot : Option Snapshot) (word path end given later : List �
 lists_one None word path end given later printed = tt
 lists_one (Some tree) word path end given later printed =
     one_more end given given later word [] (word, item_at tree path, true) refl printed (sym (append-nil given))
+
+pub lists_input : (word end given later : List ℕ) (input : Item) → later ≡ given ++ (word ++ end) →
+    HasListed end given later ((word, input, true) ∷ [])
+lists_input word end given later input printed =
+    one_more end given given later word [] (word, input, true) refl printed (sym (append-nil given))
 
 -- names after names
 pub lists_more : (end' end given middle later : List ℕ) (named more : List NamedItem) → end' ≡ end →

@@ -3,12 +3,12 @@ use Rattle.std.proofs.Common.{◌≡◌, ℕ, Bool, true, false, ◌&&◌, ◌||
 use Rattle.std.proofs.lemmas.Bool.{false≢true}
 use Rattle.cs_tree.specs.Snapshot.{Item, Snapshot, item_at, folder, file, cut, other, bad}
 use Rattle.cs_listing.specs.FolderReads.{InTree}
-use Rattle.cs_project.specs.Findings.{Finding}
-use Rattle.cs_project.specs.Project.{searched_as, shown_as, status_by}
-use Rattle.cs_project.specs.declared.binary.BinaryFiles.{BinaryFiles}
-use Rattle.cs_project.specs.declared.binary.BinaryFiles.TheVariants.{WithoutMatch, Binary, Text}
-use Rattle.cs_project.specs.declared.form.Mode.TheVariants.{Names}
-use Rattle.cs_project.specs.declared.form.ShowOptions.{ShowOptions}
+use Rattle.cs_lines.specs.Findings.{Finding}
+use Rattle.cs_lines.specs.Project.{searched_as, shown_as, status_by}
+use Rattle.cs_lines.specs.declared.binary.BinaryFiles.{BinaryFiles}
+use Rattle.cs_lines.specs.declared.binary.BinaryFiles.TheVariants.{WithoutMatch, Binary, Text}
+use Rattle.cs_lines.specs.declared.form.Mode.TheVariants.{Names}
+use Rattle.cs_lines.specs.declared.form.ShowOptions.{ShowOptions}
 use Rattle.cs_fresh.specs.Projects.{FindsInProject, SearchesProject}
 use Rattle.cs_fresh.specs.Scopes.{AreItemsOf, ForItems, IsItemOf}
 use Rattle.cs_fresh.specs.Searched.{are_marked, binary_as, item_groups, shown_of, IsWhole, NamedItem, ShowsItems}
@@ -21,12 +21,12 @@ pub if_ok : {A E : Type 0} {P Q : A → Type 0} (result : Result A E) → ((answ
 if_ok (Ok answer) f p = f answer p
 if_ok (Err fault) f p = tt
 
-pub project_searched : (snapshot : Option Snapshot) (scope : Scope) (old new : FileSearch) (given later : List ℕ) →
-    new.quick ≡ false → (IsWhole new → InTree snapshot (λ items. ForItems (AreItemsOf items scope)
+pub project_searched : (snapshot : Option Snapshot) (input : Item) (scope : Scope) (old new : FileSearch) (given later : List ℕ) →
+    new.quick ≡ false → (IsWhole new → InTree snapshot (λ items. ForItems (AreItemsOf items input scope)
     (λ named. ShowsItems old new named given later))) →
-    (status : ℕ) → IsStatusOf new status → InTree snapshot (λ items. SearchesProject items scope old given later status)
-project_searched None scope old new given later slow has status is = tt
-project_searched (Some tree) scope old new given later slow has status is = λ differs.
+    (status : ℕ) → IsStatusOf new status → InTree snapshot (λ items. SearchesProject items input scope old given later status)
+project_searched None input scope old new given later slow has status is = tt
+project_searched (Some tree) input scope old new given later slow has status is = λ differs.
     let says = is differs in
     let all = has (says.0, ap (λ q. q && new.marked) slow) in (
       all.0,
@@ -79,12 +79,12 @@ begun_by first options = record {
 }
 
 -- it has come to a marked line
-pub found_one : (snapshot : Option Snapshot) (scope : Scope) (options : ShowOptions) (first new : FileSearch) →
+pub found_one : (snapshot : Option Snapshot) (input : Item) (scope : Scope) (options : ShowOptions) (first new : FileSearch) →
     options ≡ record first.options { mode = Names } → new.marked ≡ true → new.search.stopped ≡ false →
-    InTree snapshot (λ items. FindsAmong (begun_by first options) new (IsItemOf items scope)) →
-    InTree snapshot (λ items. FindsInProject items scope first 0)
-found_one None scope options first new is marked running has = tt
-found_one (Some tree) scope options first new is marked running has =
+    InTree snapshot (λ items. FindsAmong (begun_by first options) new (IsItemOf items input scope)) →
+    InTree snapshot (λ items. FindsInProject items input scope first 0)
+found_one None input scope options first new is marked running has = tt
+found_one (Some tree) input scope options first new is marked running has =
     let h = has marked refl running in (
       λ _. (
         h.0,
@@ -100,14 +100,14 @@ and_false true = refl
 and_false false = refl
 
 -- it has come to the end, or to a line with too many matches
-pub found_none : (snapshot : Option Snapshot) (scope : Scope) (options : ShowOptions) (first new : FileSearch) (given later : List ℕ) →
+pub found_none : (snapshot : Option Snapshot) (input : Item) (scope : Scope) (options : ShowOptions) (first new : FileSearch) (given later : List ℕ) →
     options ≡ record first.options { mode = Names } → (new.marked ≡ true → new.search.stopped ≡ true) →
-    (IsWhole new → InTree snapshot (λ items. ForItems (AreItemsOf items scope) (λ named. ShowsItems (begun_by first options) new named given later))) →
-    (status : ℕ) → IsStatusOf new status → InTree snapshot (λ items. FindsInProject items scope first status)
-found_none None scope options first new given later is ended has status says = tt
-found_none (Some tree) scope options first new given later is ended has status says = by_mark new.marked refl
+    (IsWhole new → InTree snapshot (λ items. ForItems (AreItemsOf items input scope) (λ named. ShowsItems (begun_by first options) new named given later))) →
+    (status : ℕ) → IsStatusOf new status → InTree snapshot (λ items. FindsInProject items input scope first status)
+found_none None input scope options first new given later is ended has status says = tt
+found_none (Some tree) input scope options first new given later is ended has status says = by_mark new.marked refl
   where
-    by_mark : (m : Bool) → new.marked ≡ m → FindsInProject (item_at tree) scope first status
+    by_mark : (m : Bool) → new.marked ≡ m → FindsInProject (item_at tree) input scope first status
     by_mark true e = (
       λ zero. let all = says (λ two. absurd (omega (arith, zero, two))) in absurd (false≢true (sym all.1 ∙ ended e)),
       λ one. let all = says (λ two. absurd (omega (arith, one, two))) in absurd (omega (arith, one, all.2 ∙ ap (status_by false) e)),

@@ -2,8 +2,8 @@
 use Rattle.std.proofs.Common.{◌≡◌, ℕ, true, List, refl, sym, subst, ◌∙◌}
 use Rattle.cs_syntax.specs.Matching.{HasMatch}
 use Rattle.cs_match.specs.Span.{AreSpansFrom}
-use Rattle.cs_project.specs.Findings.{Finding, HasWord, Matches, IsFoundBy, KeepsSearch}
-use Rattle.cs_project.specs.declared.search.LineSearch.{LineSearch}
+use Rattle.cs_lines.specs.Findings.{Finding, HasWord, Matches, IsFoundBy, KeepsSearch}
+use Rattle.cs_lines.specs.declared.search.LineSearch.{LineSearch}
 use Rattle.cs_fresh.specs.Searched.{KeepsForm}
 use Rattle.cs_fresh.specs.declared.file_search.FileSearch.{FileSearch}
 

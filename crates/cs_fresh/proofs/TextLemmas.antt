@@ -1,15 +1,15 @@
 -- Texts that are searched one after another.
 use Rattle.std.proofs.Common.{◌≡◌, ℕ, Bool, true, false, ◌||◌, List, [], ◌∷◌, ◌++◌, refl, sym, ap, ◌∙◌, append_assoc, append-nil}
 use Rattle.std.proofs.lemmas.Bool.{false≢true}
-use Rattle.cs_project.specs.Findings.{Finding, IsFoundBy}
-use Rattle.cs_project.specs.Printed.{PrintsItem}
-use Rattle.cs_project.specs.Project.{ItemShown, nothing_shown, searched_as, shown_as, text_shown}
-use Rattle.cs_project.specs.Shown.{between, following}
-use Rattle.cs_project.specs.declared.binary.BinaryFiles.{BinaryFiles}
-use Rattle.cs_project.specs.declared.binary.BinaryFiles.TheVariants.{WithoutMatch, Binary, Text}
-use Rattle.cs_project.specs.declared.form.ShowOptions.{ShowOptions}
-use Rattle.cs_project.specs.declared.rows.Page.{Page}
-use Rattle.cs_project.specs.declared.search.LineSearch.{LineSearch}
+use Rattle.cs_lines.specs.Findings.{Finding, IsFoundBy}
+use Rattle.cs_lines.specs.Printed.{PrintsItem}
+use Rattle.cs_lines.specs.Project.{ItemShown, nothing_shown, searched_as, shown_as, text_shown}
+use Rattle.cs_lines.specs.Shown.{between, following}
+use Rattle.cs_lines.specs.declared.binary.BinaryFiles.{BinaryFiles}
+use Rattle.cs_lines.specs.declared.binary.BinaryFiles.TheVariants.{WithoutMatch, Binary, Text}
+use Rattle.cs_lines.specs.declared.form.ShowOptions.{ShowOptions}
+use Rattle.cs_lines.specs.declared.rows.Page.{Page}
+use Rattle.cs_lines.specs.declared.search.LineSearch.{LineSearch}
 use Rattle.cs_tree.specs.Snapshot.{Item}
 use Rattle.cs_fresh.specs.Searched.{NamedItem, binary_as, item_groups, shown_of, items_printed, are_marked, ShowsItems, KeepsForm}
 use Rattle.cs_fresh.specs.declared.file_search.FileSearch.{FileSearch}

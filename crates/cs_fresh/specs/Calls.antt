@@ -1,16 +1,19 @@
 -- What `cs` does: what its arguments ask for, and what is printed for it. docs/PROMISES.md, "Searching a project".
-use Rattle.std.specs.Prelude.{ℕ, ◌≡◌, ◌≢◌, Bool, true, false, if◌then◌else◌, List, [], ◌∷◌, map, slice_index_or, string_bytes, Option, Some, None, IsSomeAnd}
+use Rattle.std.specs.Prelude.{ℕ, ◌≡◌, ◌≢◌, Bool, true, false, if◌then◌else◌, List, [], ◌∷◌, map, reverse, slice_index_or, string_bytes, Option, Some, None, option_map, IsSomeAnd}
 use Rattle.cs_syntax.specs.Matching.{Tree}
 use Rattle.cs_match.specs.SameLines.{MatchSameLines, MatchSameSpans}
 use Rattle.cs_tree.specs.PathParts.{texts}
+use Rattle.cs_tree.specs.Snapshot.{Item}
 use Rattle.cs_listing.specs.Choices.{Settings, plain_settings}
 use Rattle.cs_listing.specs.Listing.{TreeItems}
 use Rattle.cs_listing.specs.PathNames.{names_along}
 use Rattle.cs_listing.specs.Rules.{Rule}
-use Rattle.cs_listing.specs.UserRules.{user_rules}
-use Rattle.cs_project.specs.Settings.{shown_in}
-use Rattle.cs_project.specs.declared.settings.Task.{Task}
-use Rattle.cs_project.specs.declared.settings.Task.TheVariants as task
+use Rattle.cs_listing.specs.GitFolders.{repository_above}
+use Rattle.cs_listing.specs.UserRules.{User, user_of, user_rules}
+use Rattle.cs_listing.specs.declared.user_settings.UserFiles.{UserFiles}
+use Rattle.cs_lines.specs.Settings.{shown_in}
+use Rattle.cs_lines.specs.declared.settings.Task.{Task}
+use Rattle.cs_lines.specs.declared.settings.Task.TheVariants as task
 use Rattle.cs_command.specs.Requests.{IsRequest}
 use Rattle.cs_command.specs.declared.request.Request.{Request}
 use Rattle.cs_fresh.specs.Knowledge.{by_names}
@@ -19,16 +22,20 @@ use Rattle.cs_fresh.specs.Scopes.{are_several}
 use Rattle.cs_fresh.specs.declared.file_search.FileSearch.{FileSearch}
 use Rattle.cs_fresh.specs.declared.scope.Scope.{Scope}
 use Rattle.cs_fresh.specs.declared.call.ProjectCall.{ProjectCall}
-use Rattle.cs_fresh.specs.declared.call.UserFolders.{UserFolders}
+
+-- the settings of the user, for a search that begins in a folder: some are for its repository alone
+abbrev pub user_in : TreeItems → List ℕ → UserFiles → User
+user_in items folder files =
+    record (user_of files None) { git = option_map (λ (found : List ℕ × List ℕ). found.1) (repository_above items (reverse (names_along folder))) }
 
 -- the rules of the user for all repositories
-abbrev pub rules_of_user : TreeItems → Option UserFolders → List Rule
-rules_of_user items None = []
-rules_of_user items (Some user) = user_rules items user.home.now user.config.now
+abbrev pub rules_of_user : TreeItems → List ℕ → Option UserFiles → List Rule
+rules_of_user items folder None = []
+rules_of_user items folder (Some files) = user_rules items (user_in items folder files)
 
 -- The choices without options: the rules of the user, and globs relative to the current folder.
 abbrev pub HasBase : TreeItems → ProjectCall → Settings → Type 0
-HasBase items call settings = settings ≡ plain_settings (rules_of_user items call.user) (names_along call.folder.now)
+HasBase items call settings = settings ≡ plain_settings (rules_of_user items call.folder.now call.user) (names_along call.folder.now)
 
 -- the words with these indices
 abbrev pub words_at : List (List ℕ) → List ℕ → List (List ℕ)
@@ -70,24 +77,24 @@ module _ (items : TreeItems) (call : ProjectCall) (request : Request) where
   ListsFor given later status =
       (scope : Scope) × IsScopeOf call request scope × ListsProject items scope (name_end request) given later status
 
--- `Knows` says of a search that what is known of the files holds for it.
-module _ (Knows : FileSearch → Type 0) (items : TreeItems) (call : ProjectCall) (request : Request) where
+-- `Knows` says of a search that what is known of the files holds for it, and `input` is the standard input.
+module _ (Knows : FileSearch → Type 0) (items : TreeItems) (input : Item) (call : ProjectCall) (request : Request) where
   -- The search that is asked for was done. With -q only the status says what it found.
   abbrev pub SearchesFor : Bool → List ℕ → List ℕ → ℕ → Type 0
   SearchesFor false given later status = status ≢ 2 → ForSearch items call request
-      (λ scope search. Knows search → SearchesProject items scope search given later status)
+      (λ scope search. Knows search → SearchesProject items input scope search given later status)
   SearchesFor true given later status = (later ≡ given) × (status ≢ 2 → ForSearch items call request
-      (λ scope search. Knows (by_names search) → FindsInProject items scope search status))
+      (λ scope search. Knows (by_names search) → FindsInProject items input scope search status))
 
 -- What is known has to hold for a search only if it is read: with --no-state it is not.
 abbrev pub IfRead : Request → (FileSearch → Type 0) → FileSearch → Type 0
 IfRead request Knows search = request.switches.state.read ≡ true → Knows search
 
-module _ (Knows : FileSearch → Type 0) (items : TreeItems) (call : ProjectCall) (request : Request) where
+module _ (Knows : FileSearch → Type 0) (items : TreeItems) (input : Item) (call : ProjectCall) (request : Request) where
   -- With --update nothing is printed.
   abbrev pub AnswersTask : Task → List ℕ → List ℕ → ℕ → Type 0
   AnswersTask task.Search given later status =
-      SearchesFor (IfRead request Knows) items call request request.switches.silent given later status
+      SearchesFor (IfRead request Knows) items input call request request.switches.silent given later status
   AnswersTask task.Files given later status = ListsFor items call request given later status
   AnswersTask task.Update given later status = (later ≡ given) × (status ≢ 2 → status ≡ 0)
   AnswersTask _ given later status = status ≡ 0
@@ -96,6 +103,6 @@ module _ (Knows : FileSearch → Type 0) (items : TreeItems) (call : ProjectCall
   AnswersRequest given later status = AnswersTask request.switches.task given later status
 
 -- Unless the status is 2, the arguments ask for something, and this was done.
-abbrev pub DoesProject : (FileSearch → Type 0) → TreeItems → ProjectCall → List ℕ → List ℕ → ℕ → Type 0
-DoesProject Knows items call given later status = status ≢ 2 → (base : Settings) × (request : Request) × HasBase items call base
-    × IsRequest (map string_bytes call.words.now) base request × AnswersRequest Knows items call request given later status
+abbrev pub DoesProject : (FileSearch → Type 0) → TreeItems → Item → ProjectCall → List ℕ → List ℕ → ℕ → Type 0
+DoesProject Knows items input call given later status = status ≢ 2 → (base : Settings) × (request : Request) × HasBase items call base
+    × IsRequest (map string_bytes call.words.now) base request × AnswersRequest Knows items input call request given later status

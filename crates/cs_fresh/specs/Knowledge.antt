@@ -5,11 +5,11 @@ use Rattle.cs_tree.specs.declared.tree.Stamp.{Stamp}
 use Rattle.cs_match.specs.SameLines.{MatchSameLines}
 use Rattle.cs_listing.specs.Listing.{TreeItems}
 use Rattle.cs_listing.specs.Stamps.{Stamps}
-use Rattle.cs_project.specs.Findings.{Finding, IsFoundBy}
-use Rattle.cs_project.specs.Project.{nothing_shown}
-use Rattle.cs_project.specs.declared.form.Mode.TheVariants.{Names}
-use Rattle.cs_project.specs.declared.form.ShowOptions.{ShowOptions}
-use Rattle.cs_project.specs.declared.search.LineSearch.{LineSearch}
+use Rattle.cs_lines.specs.Findings.{Finding, IsFoundBy}
+use Rattle.cs_lines.specs.Project.{nothing_shown}
+use Rattle.cs_lines.specs.declared.form.Mode.TheVariants.{Names}
+use Rattle.cs_lines.specs.declared.form.ShowOptions.{ShowOptions}
+use Rattle.cs_lines.specs.declared.search.LineSearch.{LineSearch}
 use Rattle.cs_fresh.specs.Searched.{shown_of}
 use Rattle.cs_fresh.specs.declared.file_search.FileSearch.{FileSearch}
 use Rattle.cs_fresh.specs.declared.knowledge.AskedSearch.{AskedSearch}

@@ -1,7 +1,8 @@
 -- Which items a search of a project has, one after another, and the names that they are printed with.
-use Rattle.std.specs.Prelude.{ℕ, ◌≡◌, Bool, true, false, not, ◌&&◌, ◌||◌, if◌then◌else◌, List, [], ◌∷◌, ◌++◌, map, length, Contains, None, is_none, codes, bytes_eq}
+use Rattle.std.specs.Prelude.{ℕ, ◌≡◌, Bool, true, false, not, ◌&&◌, ◌||◌, if◌then◌else◌, List, [], ◌∷◌, ◌++◌, map, length, None, is_none, codes, bytes_eq}
 use Rattle.std.specs.Path.{slash}
-use Rattle.cs_tree.specs.Snapshot.{Item, folder, other, bad}
+use Rattle.cs_tree.specs.Snapshot.{Item, folder, file, cut, other, bad}
+use Rattle.cs_tree.specs.StreamModels.{SourceModel, ends, fails}
 use Rattle.cs_tree.specs.Clean.{absolute, clean_path}
 use Rattle.cs_tree.specs.Cleaning.{clean_fault}
 use Rattle.cs_tree.specs.PathParts.{texts}
@@ -10,7 +11,7 @@ use Rattle.cs_listing.specs.Listing.{TreeItems, is_found}
 use Rattle.cs_listing.specs.Models.{chosen_in}
 use Rattle.cs_listing.specs.PathNames.{names_along}
 use Rattle.cs_listing.specs.Walk.{path_text}
-use Rattle.cs_listing.specs.WholeWalks.{AreListed}
+use Rattle.cs_listing.specs.Listed.{AreListed}
 use Rattle.cs_fresh.specs.Names.{name_below, prefix_of, with_slash}
 use Rattle.cs_fresh.specs.Searched.{NamedItem}
 use Rattle.cs_fresh.specs.declared.scope.Scope.{Scope}
@@ -35,9 +36,29 @@ is_entered _ entered = false
 abbrev pub leads_to_folder : TreeItems → List ℕ → Bool
 leads_to_folder items path = is_entered (items path) (items (path ++ slash ∷ []))
 
--- the path that a word stands for: `-` is the standard input
-abbrev pub operand : List ℕ → List ℕ
-operand word = if bytes_eq word (codes "-") then codes "/dev/stdin" else word
+-- ---- the standard input
+
+-- whether a word is `-`, which is no path, but names the input
+abbrev pub is_input : List ℕ → Bool
+is_input word = bytes_eq word (codes "-")
+
+-- The bytes that a source gives, and how they end.
+abbrev pub source_item : SourceModel → Item
+source_item source = elim source.ending [ ends ↦ file source.bytes | fails ↦ cut source.bytes ]
+
+abbrev pub no_bytes : Item
+no_bytes = file []
+
+-- It is read once: after that it has no bytes.
+abbrev pub left_if : Bool → Item → Item
+left_if is_read input = if is_read then no_bytes else input
+
+-- what words leave of it, one after another
+abbrev pub left_by : List (List ℕ) → Item → Item
+left_by [] input = input
+left_by (word ∷ words) input = left_by words (left_if (is_input word) input)
+
+-- ---- the paths of words
 
 -- Whether cleaning joins a name to a path as the system does: `..` follows a folder.
 abbrev pub may_clean : TreeItems → List ℕ → List ℕ → Bool
@@ -57,7 +78,7 @@ path_in items here word =
 -- whether a word names a folder
 abbrev pub names_folder : TreeItems → List ℕ → List ℕ → Bool
 names_folder items here word =
-    is_none (clean_fault here (operand word)) && leads_to_folder items (path_in items here (operand word))
+    not (is_input word) && (is_none (clean_fault here word) && leads_to_folder items (path_in items here word))
 
 module _ (items : TreeItems) (settings : Settings) where
   -- the file at a path below a folder; a word names the folder, and begins the name
@@ -89,43 +110,63 @@ module _ (items : TreeItems) (settings : Settings) where
     -- The path of a word, at which something is, and whether it leads to a folder. This holds of both.
     abbrev pub ForPath : List ℕ → (Bool → List ℕ → Type 0) → Type 0
     ForPath word P =
-        let path = path_in items here (operand word) in
-        (clean_fault here (operand word) ≡ None) × (is_there (items path) ≡ true) × P (leads_to_folder items path) path
+        let path = path_in items here word in
+        (clean_fault here word ≡ None) × (is_there (items path) ≡ true) × P (leads_to_folder items path) path
 
-    -- what a word names
-    abbrev pub AreNamed : List ℕ → List NamedItem → Type 0
-    AreNamed word named = ForPath word (λ leads path. AreAt leads path word named)
-
-    -- one of what a word names, or words name
-    abbrev pub IsNamed : List ℕ → NamedItem → Type 0
-    IsNamed word one = ForPath word (λ leads path. IsAt leads path word one)
-
-    abbrev pub IsAnyNamed : List (List ℕ) → NamedItem → Type 0
-    IsAnyNamed words one = (word : List ℕ) × Contains words word × IsNamed word one
-
-    -- what words name, one after another
-    abbrev pub AreAllNamed : List (List ℕ) → List NamedItem → Type 0
-    AreAllNamed [] named = named ≡ []
-    AreAllNamed (word ∷ words) named = (first rest : List NamedItem) × (named ≡ first ++ rest)
-        × AreNamed word first × AreAllNamed words rest
-
-    -- without words the files below the current folder
-    abbrev pub AreMeant : List (List ℕ) → List NamedItem → Type 0
-    AreMeant [] named = AreFilesBelow here [] named
-    AreMeant (word ∷ words) named = AreAllNamed (word ∷ words) named
+    -- what is at the path of a word
+    abbrev pub AreAtPath : List ℕ → List NamedItem → Type 0
+    AreAtPath word named = ForPath word (λ leads path. AreAt leads path word named)
 
     -- one of these
-    abbrev pub IsMeant : List (List ℕ) → NamedItem → Type 0
-    IsMeant [] one = IsFileBelow here [] one
-    IsMeant (word ∷ words) one = IsAnyNamed (word ∷ words) one
+    abbrev pub IsAtPath : List ℕ → NamedItem → Type 0
+    IsAtPath word one = ForPath word (λ leads path. IsAt leads path word one)
+
+    -- what a word names: the input, or what is at its path
+    abbrev pub AreNamedIf : Bool → Item → List ℕ → List NamedItem → Type 0
+    AreNamedIf true input word named = named ≡ (word, input, true) ∷ []
+    AreNamedIf false input word named = AreAtPath word named
+
+    abbrev pub AreNamed : Item → List ℕ → List NamedItem → Type 0
+    AreNamed input word named = AreNamedIf (is_input word) input word named
+
+    -- one of what a word names
+    abbrev pub IsNamedIf : Bool → Item → List ℕ → NamedItem → Type 0
+    IsNamedIf true input word one = one ≡ (word, input, true)
+    IsNamedIf false input word one = IsAtPath word one
+
+    abbrev pub IsNamed : Item → List ℕ → NamedItem → Type 0
+    IsNamed input word one = IsNamedIf (is_input word) input word one
+
+    -- one of what words name
+    abbrev pub IsAnyNamed : Item → List (List ℕ) → NamedItem → Type 0
+    IsAnyNamed input words one = (before : List (List ℕ)) × (word : List ℕ) × (after : List (List ℕ))
+        × (words ≡ before ++ word ∷ after) × IsNamed (left_by before input) word one
+
+    -- what words name, one after another
+    abbrev pub AreAllNamed : Item → List (List ℕ) → List NamedItem → Type 0
+    AreAllNamed input [] named = named ≡ []
+    AreAllNamed input (word ∷ words) named = (first rest : List NamedItem) × (named ≡ first ++ rest)
+        × AreNamed input word first × AreAllNamed (left_if (is_input word) input) words rest
+
+    -- without words the files below the current folder
+    abbrev pub AreMeant : Item → List (List ℕ) → List NamedItem → Type 0
+    AreMeant input [] named = AreFilesBelow here [] named
+    AreMeant input (word ∷ words) named = AreAllNamed input (word ∷ words) named
+
+    -- one of these
+    abbrev pub IsMeant : Item → List (List ℕ) → NamedItem → Type 0
+    IsMeant input [] one = IsFileBelow here [] one
+    IsMeant input (word ∷ words) one = IsAnyNamed input (word ∷ words) one
 
 -- The items of a scope. The folder of the scope is the current one.
-abbrev pub AreItemsOf : TreeItems → Scope → List NamedItem → Type 0
-AreItemsOf items scope named = AreMeant items (chosen_in scope.choices.now) scope.folder.now (texts scope.words.now) named
+abbrev pub AreItemsOf : TreeItems → Item → Scope → List NamedItem → Type 0
+AreItemsOf items input scope named =
+    AreMeant items (chosen_in scope.choices.now) scope.folder.now input (texts scope.words.now) named
 
 -- one of the items of a scope
-abbrev pub IsItemOf : TreeItems → Scope → NamedItem → Type 0
-IsItemOf items scope one = IsMeant items (chosen_in scope.choices.now) scope.folder.now (texts scope.words.now) one
+abbrev pub IsItemOf : TreeItems → Item → Scope → NamedItem → Type 0
+IsItemOf items input scope one =
+    IsMeant items (chosen_in scope.choices.now) scope.folder.now input (texts scope.words.now) one
 
 -- Whether there may be more than one item: not where a single word names no folder.
 abbrev pub are_several : TreeItems → List ℕ → List (List ℕ) → Bool

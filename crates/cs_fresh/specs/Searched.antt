@@ -2,12 +2,12 @@
 use Rattle.std.specs.Prelude.{ℕ, ◌≡◌, Bool, true, false, ◌&&◌, ◌||◌, List, [], ◌∷◌, ◌++◌}
 use Rattle.std.specs.List.{flat_map}
 use Rattle.cs_tree.specs.Snapshot.{Item, file, cut}
-use Rattle.cs_project.specs.Findings.{Finding, IsFoundBy, KeepsSearch}
-use Rattle.cs_project.specs.Project.{ItemShown, nothing_shown, text_shown}
-use Rattle.cs_project.specs.Shown.{between, following}
-use Rattle.cs_project.specs.declared.binary.BinaryFiles.{BinaryFiles}
-use Rattle.cs_project.specs.declared.binary.BinaryFiles.TheVariants.{WithoutMatch, Binary, Text}
-use Rattle.cs_project.specs.declared.form.ShowOptions.{ShowOptions}
+use Rattle.cs_lines.specs.Findings.{Finding, IsFoundBy, KeepsSearch}
+use Rattle.cs_lines.specs.Project.{ItemShown, nothing_shown, text_shown}
+use Rattle.cs_lines.specs.Shown.{between, following}
+use Rattle.cs_lines.specs.declared.binary.BinaryFiles.{BinaryFiles}
+use Rattle.cs_lines.specs.declared.binary.BinaryFiles.TheVariants.{WithoutMatch, Binary, Text}
+use Rattle.cs_lines.specs.declared.form.ShowOptions.{ShowOptions}
 use Rattle.cs_fresh.specs.declared.file_search.FileSearch.{FileSearch}
 
 -- An item, after the name that it is printed with, and whether a word names it.

@@ -1,8 +1,9 @@
 -- What the functions behind a search promise each other.
-use Rattle.std.specs.Prelude.{ℕ, ◌≡◌, ◌≢◌, Bool, true, false, List, [], ◌∷◌, Option, IfSome}
-use Rattle.cs_tree.specs.Snapshot.{file}
+use Rattle.std.specs.Prelude.{ℕ, ◌≡◌, ◌≢◌, Bool, true, false, List, [], ◌∷◌, Option, Some, None, IfSome}
+use Rattle.cs_tree.specs.Snapshot.{Item, file}
 use Rattle.cs_tree.specs.StreamModels.{SourceModel}
-use Rattle.cs_project.specs.Project.{status_by}
+use Rattle.cs_lines.specs.Project.{status_by}
+use Rattle.cs_fresh.specs.Scopes.{no_bytes, source_item}
 use Rattle.cs_fresh.specs.Searched.{IsMarked, NamedItem, ShowsItems}
 use Rattle.cs_fresh.specs.declared.file_search.FileSearch.{FileSearch}
 
@@ -10,6 +11,16 @@ use Rattle.cs_fresh.specs.declared.file_search.FileSearch.{FileSearch}
 abbrev pub ShowsSource : FileSearch → FileSearch → List ℕ → Bool → Option SourceModel → List ℕ → List ℕ → Type 0
 ShowsSource old new name named model given later =
     IfSome model (λ source. ShowsItems old new ((name, file source.bytes, named) ∷ []) given later)
+
+-- The input that is left to a word: nothing, if it was read for an earlier word.
+abbrev pub unread : Bool → Option SourceModel → Option Item
+unread true model = Some no_bytes
+unread false (Some source) = Some (source_item source)
+unread false None = None
+
+-- This holds of the input, if it is modelled.
+abbrev pub InInput : Option SourceModel → (Item → Type 0) → Type 0
+InInput model P = IfSome (unread false model) P
 
 -- If a line is marked, and none was before, it is one of such an item, even if an error was reported.
 abbrev pub FindsAmong : FileSearch → FileSearch → (NamedItem → Type 0) → Type 0

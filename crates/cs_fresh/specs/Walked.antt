@@ -11,7 +11,7 @@ use Rattle.cs_listing.specs.PathNames.{names_along}
 use Rattle.cs_listing.specs.Stamps.{AreStamped, Stamps}
 use Rattle.cs_listing.specs.Walk.{Begins, GivesAll, settings_in, IsWalkIn, TakesFirst, is_left, path_text}
 use Rattle.cs_fresh.specs.Names.{name_of, prefix_of, with_slash}
-use Rattle.cs_fresh.specs.Scopes.{is_there, leads_to_folder, may_clean, operand, path_in}
+use Rattle.cs_fresh.specs.Scopes.{is_there, leads_to_folder, may_clean, path_in}
 use Rattle.cs_fresh.specs.Searched.{NamedItem}
 use Rattle.cs_fresh.specs.declared.names.NameForm.{NameForm}
 use Rattle.cs_fresh.specs.declared.places.PathKind.{PathKind}
@@ -64,7 +64,7 @@ IsKindAt items path (kind.Unread fault) = is_there (items path) ≡ false
 
 abbrev pub IsPathOf : TreeItems → List ℕ → List ℕ → List ℕ → PathKind → Type 0
 IsPathOf items here word path kind =
-    (clean_fault here (operand word) ≡ None) × (path ≡ path_in items here (operand word)) × IsKindAt items path kind
+    (clean_fault here word ≡ None) × (path ≡ path_in items here word) × IsKindAt items path kind
 
 -- the path after one more name, or none where cleaning leads elsewhere
 abbrev pub StepsTo : TreeItems → List ℕ → List ℕ → Option (String Global) → Type 0
@@ -76,7 +76,7 @@ abbrev pub IsWordPath : TreeItems → List ℕ → List ℕ → List ℕ → Pat
 IsWordPath items here word path kind.Folder = IsPathOf items here word path kind.Folder
 IsWordPath items here word path kind.File = IsPathOf items here word path kind.File
 IsWordPath items here word path (kind.Unread fault) =
-    clean_fault here (operand word) ≡ None → is_there (items (path_in items here (operand word))) ≡ false
+    clean_fault here word ≡ None → is_there (items (path_in items here word)) ≡ false
 
 -- the names end alike, and an error that was reported stays reported
 abbrev pub KeepsListing : NameListing → NameListing → Type 0

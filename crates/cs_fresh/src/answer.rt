@@ -1,26 +1,32 @@
 // What the arguments of `cs` ask for is done.
 ghost use Rattle.std.specs.Prelude.{◌≡◌, ◌≢◌, [], map, slice_index_or, string_bytes, IfOk};
-ghost use Rattle.cs_fresh.specs.Cited.{texts, InTree, chosen_in, AnswersRequest, DoesProject, HasBase, IsProgramFor, IsScopeOf, IsSearchFor, ListsFor, SearchesFor, HoldsFor, asked_as, NotesSeen};
-ghost use Rattle.cs_fresh.specs.Calls.{name_end as name_end', words_at as words_at'};
+ghost use Rattle.cs_fresh.specs.Cited.{texts, InTree, chosen_in, AnswersRequest, DoesProject, HasBase, InInput, IsProgramFor, IsScopeOf, IsSearchFor, ListsFor, SearchesFor, HoldsFor, asked_as, NotesSeen};
+ghost use Rattle.cs_fresh.specs.Calls.{name_end as name_end', rules_of_user as rules_of_user', words_at as words_at'};
+ghost use Rattle.cs_listing.specs.Models.{rules_in};
 
 use crate::call::ProjectCall;
 use crate::fault::FreshFault;
 use crate::file_search::FileSearch;
 use crate::knowledge::{AskedSearch, Knowledge, NoKnowledge};
-use crate::project::{find_in_project, for_names, list_project, search_project};
+use crate::project::{find_in_project, for_names, list_project};
 use crate::reports::print_unread;
 use crate::scope::Scope;
 use crate::unprinted::Unprinted;
 use cs_command::{HELP, Request, RequestFault, fault_line, read_request};
-use cs_listing::{Choices, Rules, TYPES, path_names, user_rules};
+use cs_lines::{LineSearch, ShowOptions, Surroundings, Task};
+use cs_listing::{
+    Choices, Rules, TYPES, UserFiles, UserRules, path_names, repository_above, user_rules,
+};
 use cs_match::Program;
 use cs_output::Output;
-use cs_project::{LineSearch, ShowOptions, Surroundings, Task};
-use cs_tree::{Look, Sink, write_all};
+use cs_tree::{IoFault, Look, Sink, Source, write_all};
 use std::alloc::{AllocError, Global};
 
+/// The line that says that a piped input is not searched.
+pub const INPUT_LINE: &[u8] = b"cs: standard input is not searched; use: cs PATTERN -\n";
+
 /// What `--version` prints.
-const VERSION: &[u8] = b"cs 0.9.0\n";
+const VERSION: &[u8] = b"cs 0.9.1\n";
 
 /// The choices without options: the rules of the user, and globs relative to the current folder.
 #[derive(Drop)]
@@ -33,23 +39,24 @@ struct Base {
 /// Does what the arguments of `cs` ask for, and returns the exit status: 2 after an error, else 0
 /// if a line is marked, else 1. Files that are known to print nothing are not read.
 #[tactic(auto, using(crate::proofs::NotedLemmas::notes_more))]
-pub fn run_project<T: Look, K: Knowledge, O: Output, E: Sink>(
+pub fn run_project<T: Look, R: Source, K: Knowledge, O: Output, E: Sink>(
     call: &ProjectCall<'_>,
     tree: &mut T,
+    input: &mut R,
     known: &mut K,
     out: &mut O,
     err: &mut E,
 ) -> Result<u8, FreshFault>
-    ensures does { IfOk result (λ status. InTree (T.snapshot tree.old)
-        (λ items. DoesProject (HoldsFor (K.Holds known.old) T.stamps (T.snapshot tree.old)) items call.now
-        (O.given out.old) (O.given out.new) status)) }
+    ensures does { IfOk result (λ status. InInput (R.model input.old) (λ input. InTree (T.snapshot tree.old)
+        (λ items. DoesProject (HoldsFor (K.Holds known.old) T.stamps (T.snapshot tree.old)) items input
+        call.now (O.given out.old) (O.given out.new) status))) }
     ensures keeps { T.snapshot tree.new ≡ T.snapshot tree.old }
     ensures notes { NotesSeen T.stamps (T.snapshot tree.old) (K.noted known.old) (K.noted known.new) }
 {
     let base = base_of(call, tree, err)?;
     match read_request(call.alloc, base.choices, call.words) {
         Ok(request) => {
-            let status = answer(call, &request, tree, known, out, err)?;
+            let status = call.answer(&request, tree, input, known, out, err)?;
             Ok(status_after(base.wrong, status))
         }
         Err(RequestFault::Memory) => Err(FreshFault::Memory),
@@ -80,12 +87,40 @@ fn base_of<T: Look, E: Sink>(
             wrong: false,
         });
     };
-    let read = user_rules(call.alloc, tree, user.home, user.config)?;
+    let read = rules_of_user(call, tree, user)?;
     let wrong = print_unread(call.alloc, &read.unread, err)?;
     Ok(Base {
         choices: Choices::new(call.alloc, read.rules, folder),
         wrong,
     })
+}
+
+/// The rules of the user for a search that begins in the current folder.
+fn rules_of_user<T: Look>(
+    call: &ProjectCall<'_>,
+    tree: &mut T,
+    user: &UserFiles<'_>,
+) -> Result<UserRules, AllocError>
+    ensures rules { IfOk result (λ read. InTree (T.snapshot tree.old)
+        (λ items. rules_in read.rules ≡ rules_of_user' items call.now.folder.now (Some user.now))) }
+    ensures keeps { T.snapshot tree.new ≡ T.snapshot tree.old }
+{
+    match repository_above(call.alloc, tree, call.folder)? {
+        Some(found) => user_rules(call.alloc, tree, user, Some(found.git.as_str())),
+        None => user_rules(call.alloc, tree, user, None),
+    }
+}
+
+/// Says that a piped input is not searched, if no word names what is.
+fn say_unsearched<E: Sink>(
+    call: &ProjectCall<'_>,
+    request: &Request,
+    err: &mut E,
+) -> Result<(), IoFault> {
+    if call.piped && request.paths.is_empty() {
+        return write_all(err, INPUT_LINE);
+    }
+    Ok(())
 }
 
 /// Prints the line of arguments that ask for nothing.
@@ -99,38 +134,6 @@ fn refuse<E: Sink>(
     let line = fault_line(call.alloc, call.words, fault)?;
     write_all(err, line.as_bytes())?;
     Ok(2)
-}
-
-/// Does what is asked for.
-#[tactic(auto, using(crate::proofs::NotedLemmas::notes_more))]
-fn answer<T: Look, K: Knowledge, O: Output, E: Sink>(
-    call: &ProjectCall<'_>,
-    request: &Request,
-    tree: &mut T,
-    known: &mut K,
-    out: &mut O,
-    err: &mut E,
-) -> Result<u8, FreshFault>
-    ensures answers { IfOk result (λ status. InTree (T.snapshot tree.old)
-        (λ items. AnswersRequest (HoldsFor (K.Holds known.old) T.stamps (T.snapshot tree.old)) items call.now
-        request.now (O.given out.old) (O.given out.new) status)) }
-    ensures keeps { T.snapshot tree.new ≡ T.snapshot tree.old }
-    ensures notes { NotesSeen T.stamps (T.snapshot tree.old) (K.noted known.old) (K.noted known.new) }
-{
-    match request.switches.task {
-        Task::Help => Ok(print(HELP.as_bytes(), out)?),
-        Task::Version => Ok(print(VERSION, out)?),
-        Task::Types => Ok(print_types(out)?),
-        Task::Files => list(call, request, tree, &mut NoKnowledge, out, err),
-        Task::Update => update(call, request, tree, known, err),
-        Task::Search => {
-            if request.switches.state.read {
-                search(call, request, tree, known, out, err)
-            } else {
-                search(call, request, tree, &mut NoKnowledge, out, err)
-            }
-        }
-    }
 }
 
 /// Prints a text, and returns the exit status 0.
@@ -273,38 +276,77 @@ fn asked_options(silent: bool, files: &FileSearch<'_>) -> ShowOptions
     }
 }
 
-/// Searches the files. With `-q` only the status says whether a line is marked.
-#[tactic(auto, using(crate::proofs::NotedLemmas::notes_more, crate::proofs::NotedLemmas::notes_nothing))]
-fn search<T: Look, K: Knowledge, O: Output, E: Sink>(
-    call: &ProjectCall<'_>,
-    request: &Request,
-    tree: &mut T,
-    known: &mut K,
-    out: &mut O,
-    err: &mut E,
-) -> Result<u8, FreshFault>
-    ensures searches { IfOk result (λ status. InTree (T.snapshot tree.old)
-        (λ items. SearchesFor (HoldsFor (K.Holds known.old) T.stamps (T.snapshot tree.old)) items call.now
-        request.now request.now.switches.silent (O.given out.old) (O.given out.new) status)) }
-    ensures keeps { T.snapshot tree.new ≡ T.snapshot tree.old }
-    ensures notes { NotesSeen T.stamps (T.snapshot tree.old) (K.noted known.old) (K.noted known.new) }
-{
-    let Some(pattern) = &request.pattern else {
-        return refuse(call, RequestFault::NoPattern, err);
-    };
-    let words = words_at(call.alloc, call.words, &request.paths)?;
-    let scope = scope_of(call, request, &words);
-    let program = Program::compile(call.alloc, pattern)?;
-    let files = files_for(call, request, &scope, &program, tree)?;
-    known.begin(&AskedSearch {
-        options: asked_options(request.switches.silent, &files),
-        binary: files.binary,
-        pattern,
-        updates: request.updates,
-        whole: request.paths.is_empty(),
-    })?;
-    if request.switches.silent {
-        return find_in_project(&scope, files, tree, known, err);
+impl ProjectCall<'_> {
+    /// Does what is asked for.
+    #[tactic(auto, using(crate::proofs::NotedLemmas::notes_more))]
+    fn answer<T: Look, R: Source, K: Knowledge, O: Output, E: Sink>(
+        &self,
+        request: &Request,
+        tree: &mut T,
+        input: &mut R,
+        known: &mut K,
+        out: &mut O,
+        err: &mut E,
+    ) -> Result<u8, FreshFault>
+        ensures answers { IfOk result (λ status. InInput (R.model input.old) (λ input.
+            InTree (T.snapshot tree.old) (λ items.
+            AnswersRequest (HoldsFor (K.Holds known.old) T.stamps (T.snapshot tree.old)) items input
+            self.now request.now (O.given out.old) (O.given out.new) status))) }
+        ensures keeps { T.snapshot tree.new ≡ T.snapshot tree.old }
+        ensures notes { NotesSeen T.stamps (T.snapshot tree.old) (K.noted known.old) (K.noted known.new) }
+    {
+        match request.switches.task {
+            Task::Help => Ok(print(HELP.as_bytes(), out)?),
+            Task::Version => Ok(print(VERSION, out)?),
+            Task::Types => Ok(print_types(out)?),
+            Task::Files => list(self, request, tree, &mut NoKnowledge, out, err),
+            Task::Update => update(self, request, tree, known, err),
+            Task::Search => {
+                if request.switches.state.read {
+                    self.search(request, tree, input, known, out, err)
+                } else {
+                    self.search(request, tree, input, &mut NoKnowledge, out, err)
+                }
+            }
+        }
     }
-    search_project(&scope, files, tree, known, out, err)
+
+    /// Searches the files. With `-q` only the status says whether a line is marked.
+    #[tactic(auto, using(crate::proofs::NotedLemmas::notes_more, crate::proofs::NotedLemmas::notes_nothing))]
+    fn search<T: Look, R: Source, K: Knowledge, O: Output, E: Sink>(
+        &self,
+        request: &Request,
+        tree: &mut T,
+        input: &mut R,
+        known: &mut K,
+        out: &mut O,
+        err: &mut E,
+    ) -> Result<u8, FreshFault>
+        ensures searches { IfOk result (λ status. InInput (R.model input.old) (λ input.
+            InTree (T.snapshot tree.old) (λ items.
+            SearchesFor (HoldsFor (K.Holds known.old) T.stamps (T.snapshot tree.old)) items input self.now
+            request.now request.now.switches.silent (O.given out.old) (O.given out.new) status))) }
+        ensures keeps { T.snapshot tree.new ≡ T.snapshot tree.old }
+        ensures notes { NotesSeen T.stamps (T.snapshot tree.old) (K.noted known.old) (K.noted known.new) }
+    {
+        let Some(pattern) = &request.pattern else {
+            return refuse(self, RequestFault::NoPattern, err);
+        };
+        say_unsearched(self, request, err)?;
+        let words = words_at(self.alloc, self.words, &request.paths)?;
+        let scope = scope_of(self, request, &words);
+        let program = Program::compile(self.alloc, pattern)?;
+        let files = files_for(self, request, &scope, &program, tree)?;
+        known.begin(&AskedSearch {
+            options: asked_options(request.switches.silent, &files),
+            binary: files.binary,
+            pattern,
+            updates: request.updates,
+            whole: request.paths.is_empty() && !request.switches.silent,
+        })?;
+        if request.switches.silent {
+            return find_in_project(&scope, files, tree, input, known, err);
+        }
+        scope.search_project(files, tree, input, known, out, err)
+    }
 }

@@ -2,14 +2,8 @@
 ghost use Rattle.std.specs.Prelude.{◌≡◌, true};
 ghost use Rattle.cs_tree.specs.Cover.{is_absolute};
 
+use cs_listing::UserFiles;
 use std::alloc::Global;
-
-/// Where the settings of a user are: the home folder, and the folder of settings.
-#[derive(Clone, Copy, Drop)]
-pub struct UserFolders<'a> {
-    pub home: &'a str,
-    pub config: &'a str,
-}
 
 /// A call of `cs`, and what it finds around it.
 #[derive(Clone, Copy, Drop)]
@@ -19,8 +13,10 @@ pub struct ProjectCall<'a> {
     pub words: &'a [String],
     /// The current folder.
     pub folder: &'a str,
-    pub user: Option<UserFolders<'a>>,
+    pub user: Option<UserFiles<'a>>,
     /// Standard output is a terminal.
     pub terminal: bool,
+    /// Standard input is a pipe, and there is a terminal to say that it is not searched.
+    pub piped: bool,
     ghost absolute: { is_absolute folder.now ≡ true },
 }

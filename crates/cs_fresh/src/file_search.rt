@@ -6,8 +6,8 @@ use crate::fault::FreshFault;
 use crate::knowledge::Knowledge;
 use crate::reports::{Reports, status_of};
 use crate::walks::NamedPath;
+use cs_lines::{BinaryFiles, Ended, LineSearch, Page, ShowOptions, Window, print_file};
 use cs_output::Output;
-use cs_project::{BinaryFiles, Ended, LineSearch, Page, ShowOptions, Window, print_file};
 use cs_tree::{Look, Sink, Source, Tree, TreeFault, TreeReader};
 use std::alloc::{AllocError, Global};
 
@@ -68,7 +68,7 @@ impl<'p> FileSearch<'p> {
     /// Searches the text that is read from a source, and prints what is to be printed for it.
     /// `named` says whether a word names the file.
     #[tactic(auto, using(crate::proofs::FileLemmas::source_shown, crate::proofs::FileLemmas::source_wrong))]
-    fn show_source<R: Source, O: Output, E: Sink>(
+    pub(crate) fn show_source<R: Source, O: Output, E: Sink>(
         &mut self,
         name: &str,
         named: bool,
@@ -217,7 +217,7 @@ impl<'p> FileSearch<'p> {
 }
 
 /// Whether one of two holds.
-fn either(first: bool, second: bool) -> bool
+pub(crate) fn either(first: bool, second: bool) -> bool
     ensures { result ≡ (first || second) }
 {
     first || second

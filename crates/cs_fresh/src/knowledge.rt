@@ -3,7 +3,7 @@ ghost use Rattle.std.specs.Prelude.{[], List, IfOk, OnOk};
 ghost use Rattle.cs_fresh.specs.Knowledge.{HoldsAsBefore, HoldsIfAsked, SearchedTree, SkipsNothingShown};
 ghost use Rattle.cs_fresh.specs.Noted.{NotedFile, NotesNothing, NotesStamp};
 
-use cs_project::ShowOptions;
+use cs_lines::ShowOptions;
 use cs_syntax::Pattern;
 use cs_tree::Stamp;
 use std::alloc::AllocError;
@@ -17,7 +17,7 @@ pub struct AskedSearch<'a> {
     pub pattern: &'a Pattern,
     /// What is learned of the files may be kept.
     pub updates: bool,
-    /// All files below the current folder are searched.
+    /// All files below the current folder are searched: with `-q` a search may end before the last.
     pub whole: bool,
 }
 

@@ -8,14 +8,14 @@
 //! A `Scope` is the current folder, the words that name files and folders, and which files below a
 //! folder are searched. A word is looked up when its turn comes. A `FolderWalk` gives the files
 //! below a folder one by one (`Walk` of cs_listing), and a `FileSearch` opens each, and prints what
-//! is to be printed for it while it is read (`print_file` of cs_project), before the next one is
+//! is to be printed for it while it is read (`print_file` of cs_lines), before the next one is
 //! looked for; a file of the walk that is known to print nothing (`Knowledge`) is not opened. So
 //! the first line comes when its file is met, and memory grows neither with a file
 //! nor with the number of files. What is printed is said unless an error was reported (`Reports`),
 //! or a line has used up its budget; the exit status is 2 then. The invariants of the loops name
 //! the items so far (`HasTaken`, `HasNamed`).
 //!
-//! The crate is apart from cs_project and cs_listing since it is the first one above both.
+//! The crate is apart from cs_lines and cs_listing since it is the first one above both.
 #![tactic(auto)]
 
 mod answer;
@@ -34,11 +34,11 @@ mod sink_output;
 mod unprinted;
 mod walks;
 
-pub use answer::run_project;
-pub use call::{ProjectCall, UserFolders};
+pub use answer::{INPUT_LINE, run_project};
+pub use call::ProjectCall;
 pub use fault::FreshFault;
 pub use file_search::FileSearch;
 pub use knowledge::{AskedSearch, Knowledge, NoKnowledge};
-pub use project::{find_in_project, list_project, search_project};
+pub use project::{find_in_project, list_project};
 pub use scope::Scope;
 pub use sink_output::SinkOutput;

@@ -1,6 +1,6 @@
 // What the words of a command line name: folders and files.
-ghost use Rattle.std.specs.Prelude.{◌≡◌, ◌++◌, false, string_bytes, IfOk, OnOk};
-ghost use Rattle.cs_fresh.specs.Cited.{other, InTree, chosen_in, AreStamped, InStamps, HoldsAsBefore, HoldsFor, AreFilesBelow, AreNamed, ForItems, IsFileBelow, IsNamed, names_folder, operand, IsWhole, KeepsForm, ShowsItems, is_done, names_printed, FindsAmong, IsKindAt, IsWordPath, KeepsListing, WalksFolder, NotesSeen};
+ghost use Rattle.std.specs.Prelude.{◌≡◌, ◌++◌, ◌∷◌, [], true, false, string_bytes, IfOk, IfSome, OnOk};
+ghost use Rattle.cs_fresh.specs.Cited.{other, InTree, chosen_in, AreStamped, InStamps, HoldsAsBefore, HoldsFor, AreAtPath, AreFilesBelow, AreNamed, ForItems, IsAtPath, IsFileBelow, IsNamed, is_input, names_folder, no_bytes, unread, IsWhole, KeepsForm, ShowsItems, is_done, names_printed, FindsAmong, IsKindAt, IsWordPath, KeepsListing, WalksFolder, NotesSeen};
 
 use crate::fault::FreshFault;
 use crate::file_search::FileSearch;
@@ -12,7 +12,7 @@ use crate::walks::{FolderWalk, NameListing, print_name};
 use cs_listing::laws::gives_in_order;
 use cs_listing::{Walk, path_names};
 use cs_output::Output;
-use cs_tree::{Kind, Look, PathFault, Sink, TreeFault};
+use cs_tree::{Kind, Look, MemSource, PathFault, Sink, Source, TreeFault};
 use std::alloc::{AllocError, Global};
 
 /// A folder of a scope: its path, and the word that names it, which is empty for the current
@@ -29,6 +29,8 @@ pub(crate) struct NamedFolder<'n, 'a> {
 pub(crate) struct ScopeWord<'n, 'a> {
     pub(crate) scope: Scope<'a>,
     pub(crate) word: &'n str,
+    /// The standard input was read for an earlier word.
+    pub(crate) is_read: bool,
 }
 
 /// What is at a path.
@@ -78,22 +80,22 @@ fn linked_kind<T: Look>(alloc: Global, tree: &mut T, path: &str) -> Result<PathK
     }
 }
 
-/// The path that a word stands for: `-` is the standard input.
-fn operand(word: &str) -> &str
-    ensures { result.now ≡ operand word.now }
+/// Whether a word is `-`, which names the standard input.
+pub(crate) fn is_input(word: &str) -> bool
+    ensures { result ≡ is_input word.now }
 {
-    if word == "-" { "/dev/stdin" } else { word }
+    word == "-"
 }
 
 impl<'a> Scope<'a> {
-    /// What a word names.
+    /// What is at the path of a word.
     fn named<T: Look>(&self, tree: &mut T, word: &str) -> Result<WordPath, AllocError>
         ensures named { IfOk result (λ named. InTree (T.snapshot tree.old)
             (λ items. IsWordPath items self.now.folder.now word.now
             (string_bytes named.path) named.kind)) }
         ensures keeps { T.snapshot tree.new ≡ T.snapshot tree.old }
     {
-        match word_path(self.alloc, tree, self.folder, operand(word)) {
+        match word_path(self.alloc, tree, self.folder, word) {
             Ok(path) => {
                 let kind = kind_at(self.alloc, tree, path.as_str())?;
                 Ok(WordPath { path, kind })
@@ -112,6 +114,9 @@ impl<'a> Scope<'a> {
             (λ items. folder ≡ names_folder items self.now.folder.now word.now)) }
         ensures keeps { T.snapshot tree.new ≡ T.snapshot tree.old }
     {
+        if is_input(word) {
+            return Ok(false);
+        }
         let named = self.named(tree, word)?;
         match named.kind {
             PathKind::Folder => Ok(true),
@@ -194,9 +199,65 @@ impl<'a> NamedFolder<'_, 'a> {
 }
 
 impl ScopeWord<'_, '_> {
-    /// Searches what the word names.
+    /// Searches what the word names. The input is read only once.
     #[tactic(auto, using(crate::proofs::NotedLemmas::notes_more))]
-    pub(crate) fn search<T: Look, K: Knowledge, O: Output, E: Sink>(
+    pub(crate) fn search<T: Look, R: Source, K: Knowledge, O: Output, E: Sink>(
+        &self,
+        search: &mut FileSearch<'_>,
+        tree: &mut T,
+        input: &mut R,
+        known: &mut K,
+        out: &mut O,
+        err: &mut E,
+    ) -> Result<(), FreshFault>
+        ensures searched { OnOk result (IfSome (unread self.now.is_read (R.model input.old))
+            (λ input. HoldsFor (K.Holds known.old) T.stamps (T.snapshot tree.old) search.old →
+            IsWhole search.new → InTree (T.snapshot tree.old)
+            (λ items. ForItems (AreNamed items (chosen_in self.now.scope.choices.now)
+            self.now.scope.folder.now input self.now.word.now)
+            (λ named. ShowsItems search.old search.new named (O.given out.old) (O.given out.new))))) }
+        ensures found { OnOk result (IfSome (unread self.now.is_read (R.model input.old))
+            (λ input. InTree (T.snapshot tree.old) (λ items. FindsAmong search.old search.new
+            (IsNamed items (chosen_in self.now.scope.choices.now) self.now.scope.folder.now input
+            self.now.word.now)))) }
+        ensures same { KeepsForm search.old search.new }
+        ensures holds { HoldsAsBefore (K.Holds known.old) (K.Holds known.new) }
+        ensures keeps { T.snapshot tree.new ≡ T.snapshot tree.old }
+        ensures left { is_input self.now.word.now ≡ false → R.model input.new ≡ R.model input.old }
+        ensures notes { NotesSeen T.stamps (T.snapshot tree.old) (K.noted known.old) (K.noted known.new) }
+    {
+        if is_input(self.word) {
+            return self.search_input(search, input, out, err);
+        }
+        self.search_path(search, tree, known, out, err)
+    }
+
+    /// Searches the input, or an empty text if it was read.
+    fn search_input<R: Source, O: Output, E: Sink>(
+        &self,
+        search: &mut FileSearch<'_>,
+        input: &mut R,
+        out: &mut O,
+        err: &mut E,
+    ) -> Result<(), FreshFault>
+        ensures shown { OnOk result (IfSome (unread self.now.is_read (R.model input.old))
+            (λ input. ShowsItems search.old search.new ((self.now.word.now, input, true) ∷ [])
+            (O.given out.old) (O.given out.new))) }
+        ensures found { OnOk result (IfSome (unread self.now.is_read (R.model input.old))
+            (λ input. FindsAmong search.old search.new
+            (λ one. one ≡ (self.now.word.now, input, true)))) }
+        ensures same { KeepsForm search.old search.new }
+    {
+        if self.is_read {
+            let mut nothing = MemSource::new(b"", 1, false);
+            return search.show_source(self.word, true, &mut nothing, out, err);
+        }
+        search.show_source(self.word, true, input, out, err)
+    }
+
+    /// Searches what is at the path of the word.
+    #[tactic(auto, using(crate::proofs::NotedLemmas::notes_more))]
+    fn search_path<T: Look, K: Knowledge, O: Output, E: Sink>(
         &self,
         search: &mut FileSearch<'_>,
         tree: &mut T,
@@ -207,11 +268,11 @@ impl ScopeWord<'_, '_> {
         ensures searched { OnOk result (
             HoldsFor (K.Holds known.old) T.stamps (T.snapshot tree.old) search.old →
             IsWhole search.new → InTree (T.snapshot tree.old)
-            (λ items. ForItems (AreNamed items (chosen_in self.now.scope.choices.now)
+            (λ items. ForItems (AreAtPath items (chosen_in self.now.scope.choices.now)
             self.now.scope.folder.now self.now.word.now)
             (λ named. ShowsItems search.old search.new named (O.given out.old) (O.given out.new)))) }
         ensures found { OnOk result (InTree (T.snapshot tree.old) (λ items. FindsAmong search.old search.new
-            (IsNamed items (chosen_in self.now.scope.choices.now) self.now.scope.folder.now
+            (IsAtPath items (chosen_in self.now.scope.choices.now) self.now.scope.folder.now
             self.now.word.now))) }
         ensures same { KeepsForm search.old search.new }
         ensures holds { HoldsAsBefore (K.Holds known.old) (K.Holds known.new) }
@@ -233,7 +294,7 @@ impl ScopeWord<'_, '_> {
         }
     }
 
-    /// Prints the names of the files that the word names.
+    /// Prints the names of what the word names. Of the input this is its word, and nothing is read.
     #[tactic(auto, using(crate::proofs::NotedLemmas::notes_more))]
     pub(crate) fn list<T: Look, K: Knowledge, O: Output, E: Sink>(
         &self,
@@ -245,6 +306,30 @@ impl ScopeWord<'_, '_> {
     ) -> Result<(), FreshFault>
         ensures listed { OnOk result (listing.new.reports.wrong ≡ false → InTree (T.snapshot tree.old)
             (λ items. ForItems (AreNamed items (chosen_in self.now.scope.choices.now)
+            self.now.scope.folder.now no_bytes self.now.word.now)
+            (λ named. O.given out.new ≡ O.given out.old ++ names_printed listing.old.end.now named))) }
+        ensures same { KeepsListing listing.old listing.new }
+        ensures keeps { T.snapshot tree.new ≡ T.snapshot tree.old }
+        ensures notes { NotesSeen T.stamps (T.snapshot tree.old) (K.noted known.old) (K.noted known.new) }
+    {
+        if is_input(self.word) {
+            return Ok(print_name(self.word, listing.end, out)?);
+        }
+        self.list_path(listing, tree, known, out, err)
+    }
+
+    /// Prints the names of the files at the path of the word.
+    #[tactic(auto, using(crate::proofs::NotedLemmas::notes_more))]
+    fn list_path<T: Look, K: Knowledge, O: Output, E: Sink>(
+        &self,
+        listing: &mut NameListing<'_>,
+        tree: &mut T,
+        known: &mut K,
+        out: &mut O,
+        err: &mut E,
+    ) -> Result<(), FreshFault>
+        ensures listed { OnOk result (listing.new.reports.wrong ≡ false → InTree (T.snapshot tree.old)
+            (λ items. ForItems (AreAtPath items (chosen_in self.now.scope.choices.now)
             self.now.scope.folder.now self.now.word.now)
             (λ named. O.given out.new ≡ O.given out.old ++ names_printed listing.old.end.now named))) }
         ensures same { KeepsListing listing.old listing.new }

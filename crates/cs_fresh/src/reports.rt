@@ -84,6 +84,7 @@ impl Reports {
             ListFault::Unnamed => "the name of an entry is not UTF-8",
             ListFault::LongPath => "the path is too long",
             ListFault::LongRules => "the rule file is too long",
+            ListFault::ManyRules => "the rule files along the path are too long",
         };
         self.print(name, why, err)
     }

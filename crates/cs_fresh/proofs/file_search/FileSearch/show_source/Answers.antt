@@ -1,6 +1,6 @@
 use Rattle.std.proofs.Common.{refl, ap}
-use Rattle.cs_project.specs.Streams.{is_whole}
-use Rattle.cs_project.specs.declared.rows.Page.{Page}
+use Rattle.cs_lines.specs.Streams.{is_whole}
+use Rattle.cs_lines.specs.declared.rows.Page.{Page}
 use Rattle.cs_fresh.specs.declared.file_search.FileSearch.{FileSearch}
 use Rattle.cs_fresh.proofs.FileLemmas.{source_shown}
 use Rattle.cs_fresh.proofs.FoundLemmas.{found_source}

@@ -2,6 +2,7 @@ use Rattle.std.proofs.Common.{◌≡◌, ◌++◌, take, false}
 use Rattle.cs_tree.specs.PathParts.{texts}
 use Rattle.cs_listing.specs.Models.{chosen_in}
 use Rattle.cs_fresh.specs.Noted.{NotesSeen}
+use Rattle.cs_fresh.specs.Scopes.{no_bytes}
 use Rattle.cs_fresh.specs.Searched.{names_printed}
 use Rattle.cs_fresh.specs.Walked.{KeepsListing}
 use Rattle.cs_fresh.proofs.ScopeLemmas.{HasNamed}
@@ -14,6 +15,6 @@ invariant-words g l = record {
   same : KeepsListing l.fn.listing l.listing;
   noted : NotesSeen g.T.Look.stamps (g.T.Tree.snapshot l.fn.tree) (g.K.Knowledge.noted l.fn.known) (g.K.Knowledge.noted l.known);
   named : l.listing.reports.wrong ≡ false → HasNamed (g.T.Tree.snapshot l.fn.tree) (chosen_in l.self.choices.now) l.self.folder.now
-      (texts (take l.word-index l.self.words.now))
+      no_bytes (texts (take l.word-index l.self.words.now))
       (λ named. g.O.Output.given l.out ≡ g.O.Output.given l.fn.out ++ names_printed l.fn.listing.end.now named);
 }

@@ -2,8 +2,7 @@
 // `tests/runs/library_allocations.py` checks that the three tests have the same number of
 // allocations. With an `is_match` that also copies its table, the second has 6 more than the first,
 // and the third 4,334 more.
-use crate::fixtures::{PLAIN, tree_of};
-use crate::searching::reports::program_of;
+use crate::fixtures::{PLAIN, program_of, tree_of};
 use cs_args::{Style, ToolFault};
 use cs_fakes::{FuseTree, MemTree, ONE_FILE, strings};
 use cs_index::{Index, Postings, Sections};

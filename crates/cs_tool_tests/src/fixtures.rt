@@ -1,7 +1,13 @@
 // Fixtures of several tools.
-use cs_args::Style;
+use cs_args::{Style, ToolFault};
 use cs_fakes::{Item, MemTree, PutFault};
+use cs_match::Program;
+use cs_syntax::parse;
 use std::alloc::{AllocError, Global};
+
+pub mod files;
+pub mod indexed;
+pub mod jobs;
 
 /// An item of a tree: a folder, or a file with this text.
 pub type TreeItem<'a> = (&'a str, Option<&'a str>);
@@ -13,10 +19,6 @@ pub const PLAIN: Style = Style {
     number: false,
     bare: false,
 };
-
-/// The index of the path `/v` without a file.
-pub const ONE_PATH: &[u8] =
-    b"csearch index 1\n/v\0\0\0\xff\xff\xff\0\0\0\0\0\0\0\0\x10\0\0\0\x14\0\0\0\x15\0\0\0\x19\0\0\0\x1d\ncsearch trailr\n";
 
 /// The parts of a text between separators.
 pub fn args_of(alloc: Global, text: &str, mark: char) -> Result<Vec<String>, AllocError> {
@@ -42,4 +44,10 @@ pub fn tree_of(alloc: Global, items: &[TreeItem<'_>]) -> Result<MemTree, PutFaul
         tree.put(*path, item_of(alloc, *text)?)?;
     }
     Ok(tree)
+}
+
+/// The program of a pattern.
+pub fn program_of(alloc: Global, pattern: &str) -> Result<Program, ToolFault> {
+    let pattern = parse(alloc, pattern, false)?;
+    Ok(Program::compile(alloc, &pattern)?)
 }

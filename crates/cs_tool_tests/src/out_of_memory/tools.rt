@@ -1,9 +1,8 @@
 // Whole tools in memory: on error a prefix of the output was printed.
-use crate::fixtures::{TreeItem, tree_of};
-use crate::indexing::jobs::{index_of, run_three};
+use crate::fixtures::indexed::{FIRST, GOOGLE, search};
+use crate::fixtures::jobs::{index_of, run_three};
+use crate::fixtures::{TreeItem, files, tree_of};
 use crate::out_of_memory::{Outcome, at_most_one_fails};
-use crate::searching::indexed::{FIRST, GOOGLE, search};
-use crate::searching::tools;
 use cs_args::{CindexFault, Reply, ToolFault};
 use cs_search::Status;
 use cs_tree::MemSink;
@@ -34,7 +33,7 @@ fn came(
 fn grepped(alloc: Global) -> Result<Outcome, Fail> {
     let mut out = MemSink::new(alloc, 1000);
     let mut err = MemSink::new(alloc, 1000);
-    let answer = tools::run(alloc, "-n one /t/p /t/x /t/p", &mut out, &mut err)?;
+    let answer = files::run(alloc, "-n one /t/p /t/x /t/p", &mut out, &mut err)?;
     let lines = b"/t/p:1:one\n/t/p:3:one\n/t/p:1:one\n/t/p:3:one\n";
     let missing = b"cgrep: /t/x: no such file\n";
     Ok(came(answer, &out, &err, (lines, missing)))

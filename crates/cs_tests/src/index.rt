@@ -1,9 +1,0 @@
-// The index: written, read, and queried.
-mod building;
-mod candidates;
-mod lists;
-mod names;
-mod pieces;
-mod reading;
-mod sections;
-mod windows;

@@ -1,4 +1,0 @@
-// Trees, sources and sinks.
-mod buffered;
-mod files;
-mod walking;

@@ -1,3 +1,0 @@
-// Scans of files, and queries of patterns.
-mod queries;
-mod scanning;

@@ -6,19 +6,12 @@
 
 . "$(dirname -- "$0")/release.sh"
 name=codesearch-$version-linux-x86_64
-kit=$(dirname "$(rt doc)")
 top=$fresh/$name
 mkdir -p "$top/bin"
 
-# statically OBJECT PROGRAM: links what rt has compiled
-statically() {
-    cc -static -o "$2" "$1" "$kit/c/libos_c.a" "$kit/c/liblibc_c.a"
-    strip "$2"
-}
-
-statically crates/codesearch/out/codesearch.o "$top/bin/codesearch"
+scripts/link.sh crates/codesearch/out/codesearch.o "$top/bin/codesearch"
 # install.sh chooses this one if it runs.
-[ -z "$newer" ] || statically crates/codesearch/out/codesearch-v3.o "$top/bin/codesearch-v3"
+[ -z "$newer" ] || scripts/link.sh crates/codesearch/out/codesearch-v3.o "$top/bin/codesearch-v3"
 cp bin/csparts "$top/bin"
 library=out/lib
 if [ -f "$library/libcodesearch.a" ]; then
@@ -33,7 +26,7 @@ mkdir "$top/man" "$top/completion" "$top/editors"
 cp man/*.[157] "$top/man"
 cp completion/* "$top/completion"
 cp editors/* "$top/editors"
-cp LICENSE NOTICE VERSION CHANGELOG.md README.md docs/USE.md scripts/install.sh "$top"
+cp LICENSE NOTICE VERSION CHANGELOG.md README.md docs/USE.md scripts/install.sh proved/libc/LGPL-2.1 "$top"
 find "$top" -type d -exec chmod 755 {} +
 find "$top" -type f -exec chmod 644 {} +
 chmod 755 "$top"/bin/* "$top/install.sh"

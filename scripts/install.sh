@@ -42,12 +42,16 @@ put() {
     mv "$3.new" "$3"
 }
 
-# The program for newer processors (x86-64-v3) says by its status whether this is one. V3= leaves it out.
+# runs PROGRAM: whether this processor runs it: a search without a match has status 1
+runs() { ("$1" cgrep x < /dev/null > /dev/null 2>&1; [ $? = 1 ]) 2> /dev/null; }
+
+# The program for newer processors (x86-64-v3), if it runs here. V3= leaves it out.
 program=${PROGRAM:-$here/bin/codesearch}
-if [ -n "${V3-1}" ] && [ -x "$program-v3" ] && [ ! "$program-v3" -ot "$program" ]; then
-    status=0
-    "$program-v3" cgrep x < /dev/null > /dev/null 2>&1 || status=$?
-    [ $status != 1 ] || program=$program-v3
+if [ -n "${V3-1}" ] && [ -x "$program-v3" ] && [ ! "$program-v3" -ot "$program" ] && runs "$program-v3"; then
+    program=$program-v3
+elif ! runs "$program"; then
+    echo 'install.sh: the program needs a processor of x86-64-v2 (with SSE4.2, SSSE3 and POPCNT), and does not run on this one' >&2
+    exit 2
 fi
 install -d "$to/bin" "$bash" "$zsh" "$fish" "$vim" "$emacs"
 put 755 "$program" "$to/bin/codesearch"
@@ -76,10 +80,13 @@ version=$(cat "$here/VERSION")
 install -d "$libs/pkgconfig" "$to/include"
 put 644 "$here/include/codesearch.h" "$to/include/codesearch.h"
 put 644 "$library/libcodesearch.a" "$libs/libcodesearch.a"
-put 644 "$library/libcodesearch.so.$version" "$libs/libcodesearch.so.$version"
 rm -f "$libs/libcodesearch.so.${version%%.*}" "$libs/libcodesearch.so" "$libs/pkgconfig/codesearch.pc"
-ln -s "libcodesearch.so.$version" "$libs/libcodesearch.so.${version%%.*}"
-ln -s "libcodesearch.so.${version%%.*}" "$libs/libcodesearch.so"
+# (a machine without a C compiler made no shared object)
+if [ -f "$library/libcodesearch.so.$version" ]; then
+    put 644 "$library/libcodesearch.so.$version" "$libs/libcodesearch.so.$version"
+    ln -s "libcodesearch.so.$version" "$libs/libcodesearch.so.${version%%.*}"
+    ln -s "libcodesearch.so.${version%%.*}" "$libs/libcodesearch.so"
+fi
 cat > "$libs/pkgconfig/codesearch.pc" <<END
 prefix=$prefix
 includedir=\${prefix}/include

@@ -4,8 +4,6 @@
 
 cd "$(dirname -- "$0")/.." || exit 2
 set -e
-version=$(cat VERSION)
-major=${version%%.*}
 kit=$(dirname "$(rt doc)")
 crate=crates/codesearch_c
 to=${1:-out/lib}
@@ -16,22 +14,11 @@ if [ ! -f "$crate/out/libcodesearch_c.a" ]; then
     rm -f "$crate"/out/*.stamp
     scripts/program.sh codesearch_c
 fi
-
-for tool in cc ar ranlib strip; do
-    command -v $tool > /dev/null || { echo "codesearch: libcodesearch is proved, and not made: there is no $tool" >&2; exit 0; }
-done
-
-# The archive has the crate's object and the two functions of the kit that call malloc, realloc and free.
+# The archive has the crate's object and the two functions of the kit that call malloc, realloc and free. The toolchain's ar gives
+# the same bytes on each machine.
 fresh=$(mktemp -d)
 trap 'rm -rf "$fresh"' EXIT
 cp "$crate/out/libcodesearch_c.a" "$fresh/libcodesearch.a"
-(cd "$fresh" && ar x "$kit/c/liblibc_c.a" && ar rD libcodesearch.a *.o 2> /dev/null && ranlib -D libcodesearch.a)
+(cd "$fresh" && "$kit/toolchain/bin/llvm-ar" x "$kit/c/liblibc_c.a" && "$kit/toolchain/bin/llvm-ar" rcsD libcodesearch.a ./*.o)
 cp "$fresh/libcodesearch.a" "$to/libcodesearch.a"
-
-printf 'CODESEARCH_%s { global: cs_*; local: *; };\n' "$major" > "$fresh/map"
-cc -shared -o "$to/libcodesearch.so.$version" -Wl,--whole-archive "$fresh/libcodesearch.a" -Wl,--no-whole-archive \
-    -Wl,--version-script="$fresh/map" -Wl,-soname,"libcodesearch.so.$major" -Wl,-z,relro,-z,now -Wl,--build-id=none
-strip --strip-unneeded "$to/libcodesearch.so.$version"
-# (copies, since rt refuses links)
-cp "$to/libcodesearch.so.$version" "$to/libcodesearch.so.$major"
-cp "$to/libcodesearch.so.$version" "$to/libcodesearch.so"
+scripts/shared.sh "$to"

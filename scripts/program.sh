@@ -6,17 +6,16 @@
 cd "$(dirname -- "$0")/.." || exit 2
 target=${1:-codesearch}
 start=$(date +%s)
+command -v rt > /dev/null || {
+    echo 'codesearch: the program is built only after its proof, and here is no Rattle toolchain (rt)' >&2
+    commit=$(git log -1 --format=%h -- proved/SUMS 2> /dev/null)
+    [ -z "$commit" ] || printf 'codesearch: proved/ has the program of %s: git checkout %s gives its sources\n' \
+        "$(head -n 1 proved/SUMS)" "$commit" >&2
+    exit 2
+}
 
 # The crates of the target, each after those that it uses.
-order=$(awk -F: -v target="$target" '
-    { sub(/ .*/, "", $1); uses[$1] = $2 }
-    function visit(crate,    names, count, i) {
-        if (!(crate in uses) || seen[crate]++) return
-        count = split(uses[crate], names, " ")
-        for (i = 1; i <= count; i++) visit(names[i])
-        print crate
-    }
-    END { visit(target) }' crates.txt)
+order=$(awk -f scripts/crates.awk -v target="$target" crates.txt)
 total=$(echo "$order" | wc -l)
 number=0
 
@@ -56,6 +55,11 @@ passed() {
     seconds=$(($(date +%s) - start))
     printf '%d:%02d' $((seconds / 60)) $((seconds % 60))
 }
+
+# In a first build the libraries are proved in parallel. Where `rt check` has kept work, they are proved one after another over it.
+is_first=1
+for crate in $order; do [ "$crate" = "$target" ] || [ ! -d "crates/$crate/out/incremental" ] || is_first=; done
+[ -z "$is_first" ] || scripts/program.py "$target" || exit 1
 
 for crate in $order; do
     number=$((number + 1))

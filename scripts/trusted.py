@@ -23,7 +23,7 @@ CONTRACTS = [
     ("cindex_stored", "cs_cindex/src/job.rt", [], 1250),
     ("run", "codesearch/src/running.rt", [], 2435),
     ("execute", "codesearch/src/execution.rt", [], 2570),
-    ("run_project", "cs_fresh/src/answer.rt", [], 3100),
+    ("run_project", "cs_fresh/src/answer.rt", [], 3350),
 ]
 
 # the files of the traits

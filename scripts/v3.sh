@@ -7,7 +7,8 @@ cd "$(dirname -- "$0")/../crates/codesearch/out" || exit 2
 set -e
 kept=$(mktemp -d)
 # rt writes this program where the other one is, and runs it, which fails on an older processor.
-cp -p codesearch codesearch.o codesearch.stamp "$kept"
+cp -p codesearch codesearch.o "$kept"
+[ ! -f codesearch.stamp ] || cp -p codesearch.stamp "$kept"
 trap 'cp -p "$kept"/* .; rm -rf "$kept"' EXIT
 trap 'exit 130' INT
 trap 'exit 143' TERM

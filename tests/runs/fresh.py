@@ -136,17 +136,17 @@ class Project:
             os.remove(path) if os.path.lexists(path) else None
             os.rename(self.top + b".away", path)
 
-    def there_or_not(self, path, name, data):
+    def there_or_not(self, path, names, data):
         if os.path.lexists(self.top + path):
             shutil.rmtree(self.top + path) if os.path.isdir(self.top + path) else os.remove(self.top + path)
         else:
-            self.put(self.top + path + name, data)
+            [self.put(self.top + path + name, data) for name in names]
 
     def change(self):
         rules, pick = [b"/.gitignore", b"/src/.gitignore", b"/Z/src/.gitignore", b"/.ignore"], self.dice.choice
         steps = {
-            "submodule": lambda: self.there_or_not(b"/Z/src/.git", b"/HEAD", b"ref: refs/heads/one\n"),
-            "a name that is not UTF-8": lambda: self.there_or_not(b"/a b/\xff.c", b"", b"marker\n"),
+            "submodule": lambda: self.there_or_not(b"/Z/src/.git", [b"/HEAD", b"/objects/a", b"/refs/a"], b"ref: refs/heads/one\n"),
+            "a name that is not UTF-8": lambda: self.there_or_not(b"/a b/\xff.c", [b""], b"marker\n"),
             "linked": lambda: attempt(os.symlink, pick([*self.files(1), self.top + b"/src", PRECIOUS]), self.path()),
             "written": lambda: [self.put(path, text(self.dice, 0.5)) for path in [*self.files(4), self.path(), self.path()]],
             "removed": lambda: [os.remove(path) for path in self.files(3)],
@@ -206,6 +206,17 @@ class Project:
             self.rewritten()
         [it.communicate() for it in children]
 
+    def stopped(self, _others):
+        """A search whose reader goes, and one that ends at its first match, take no state away."""
+        before = self.states()
+        child = self.start(["-c", ""])
+        child.stdout.read(1)
+        child.stdout.close()
+        child.stderr.close()
+        child.wait()
+        self.ran(["-q", ""])
+        complain("a stopped search took the state away", before) if before and not self.states() else None
+
     def full_disk(self, _others):
         shutil.rmtree(self.kept, ignore_errors=True)
         os.makedirs(self.kept)
@@ -217,7 +228,7 @@ class Project:
                 subprocess.run(["umount", self.kept], check=True)
 
     def trouble(self, others):
-        self.dice.choice([self.damage, self.damage, self.protected, self.planted, self.killed, self.at_once, self.full_disk])(others)
+        self.dice.choice([self.damage, self.damage, self.protected, self.planted, self.killed, self.stopped, self.at_once, self.full_disk])(others)
         self.compare("trouble with the state")
 
 
@@ -226,8 +237,9 @@ def main():
         print("skipped: fresh: git is not installed")
         return False
     rounds, seed = int(sys.argv[2]) if sys.argv[2:] else 4, sys.argv[3] if sys.argv[3:] else "1"
-    os.makedirs("precious/folder")
-    write("precious/file", b"precious marker\n")
+    [os.makedirs("precious/" + folder) for folder in ["folder", "objects", "refs"]]
+    [write("precious/" + file, b"precious marker\n") for file in ["file", "HEAD"]]
+    precious = sorted(os.walk("precious"))
     projects = [Project(number, *one, seed) for number, one in enumerate(PROJECTS)]
     for _ in range(rounds):
         [project.change() for _ in range(3) for project in projects]
@@ -238,7 +250,7 @@ def main():
             project.rewritten()
             project.compare("other bytes of the same length")
             project.trouble(projects)
-        if read("precious/file") != b"precious marker\n" or [*os.walk("precious")] != [("precious", ["folder"], ["file"]), ("precious/folder", [], [])]:
+        if read("precious/file") != b"precious marker\n" or sorted(os.walk("precious")) != precious:
             complain("outside of the projects", [*os.walk("precious")])
     states = sum(len(project.seen) for project in projects)
     complain("no state was made", 0) if not states else None

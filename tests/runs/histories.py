@@ -10,11 +10,13 @@ import shutil
 import sys
 
 import running
+from indexes import index_of_texts, mixed_text
 from running import complain, home, leave, read, run, write
 
 HISTORIES = 1000
 JOBS = 4
-# The number of files of each of three folders, and the new number of one of them. The numbers of indexed files with 20,000 trigrams.
+# The number of files of each of three folders, and the new number of one of them. The numbers of
+# indexed files with 20,000 trigrams: 24 files fill one batch of the radix sort.
 JOINED = [(1, 0), (9, 8), (128, 127), (140, 0), (140, 131), (300, 300), (300, 1)]
 BATCHES = [1, 23, 24, 25, 26, 49]
 
@@ -58,31 +60,7 @@ class Model:
         names = sorted(self.kept)
         if chance:
             chance.shuffle(names)
-        ids, lists, entries = {}, b"", b""
-        for id, text in enumerate(self.kept[name] for name in names):
-            for trigram in {text[at : at + 3] for at in range(len(text) - 2)}:
-                ids.setdefault(trigram, []).append(id)
-        for trigram, found in sorted(ids.items()):
-            entries += trigram + number(len(found)) + number(len(lists))
-            lists += trigram + b"".join(varint(id - last) for last, id in zip([-1, *found], found)) + b"\0"
-        ends = [0]
-        for name in names:
-            ends.append(ends[-1] + len(name) + 1)
-        strings = lambda each: b"".join(it.encode() + b"\0" for it in each) + b"\0"
-        sections = [strings(self.paths), strings(names), lists + b"\xff\xff\xff\0", b"".join(map(number, ends)), entries]
-        data, offsets = b"csearch index 1\n", b""
-        for section in sections:
-            offsets += number(len(data))
-            data += section
-        return data + offsets + b"\ncsearch trailr\n"
-
-
-def number(value):
-    return value.to_bytes(4, "big")
-
-
-def varint(value):
-    return bytes([value]) if value < 128 else bytes([value % 128 + 128]) + varint(value // 128)
+        return index_of_texts([path.encode() for path in self.paths], {name.encode(): self.kept[name] for name in names})
 
 
 def write_tree(files):
@@ -149,15 +127,6 @@ def is_joined(count, now, changed):
     return does(model, [f"{home}/t/{changed}"], tree())
 
 
-def text_of_many_trigrams():
-    """A text of 20,000 trigrams; 24 of them fill one batch of the radix sort."""
-    text, state = bytearray(), 1
-    for at in range(20_243):
-        state = (state * 1_103_515_245 + 12_345) % 2**32
-        text.append(10 if at % 80 == 79 else 33 + (state >> 16) % 94)
-    return bytes(text)
-
-
 def main():
     chance = random.Random(2012)
     for at in range(HISTORIES):
@@ -168,7 +137,7 @@ def main():
         for changed in "bcd":
             if not is_joined(count, now, changed):
                 complain(f"{now} files for {count}, in {changed}", "another index")
-    text = text_of_many_trigrams()
+    text = mixed_text(20_243)
     for count in BATCHES:
         if not does(Model(), [f"{home}/t"], write_tree({f"f/{at + 1000}": text for at in range(count)}), resets=True):
             complain(f"{count} files of many trigrams", "another index")

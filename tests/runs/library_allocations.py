@@ -6,11 +6,12 @@ TESTS is a test program, as `rt ci` and `rt test` leave it in a crate's out/. Ea
 Nth allocation failing, N = 1, 2, .., until a run has no failing allocation. Such a run passes if each call gives its usual answer,
 also when it is repeated; or it ends by an error that names memory. A wrong answer stops the test by a signal. The tests of its
 module `allocations` make calls that do not allocate, each test another number of times, and have equal numbers of allocations."""
+import os
 import re
 import sys
 
 import running
-from running import complain, counted_run, failing_run, run
+from running import complain, counted_run, failing_run, run, skip
 
 # The text of an error that comes from a failed allocation.
 MEMORY = re.compile(rb"(error: .*)?(Memory|AllocError|AllocFailed|OutOfMemory)")
@@ -56,6 +57,8 @@ def count_allocations(tests):
 
 
 def main():
+    if not os.path.exists(running.program):
+        skip("allocations of the libraries", "there is no program of tests (rt ci leaves one)")
     tests = tests_of("out_of_memory")
     allocations = 0
     for test in tests:

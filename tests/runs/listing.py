@@ -10,6 +10,17 @@ NAMES = ["a", "b", "ab", "a.b", ".c", "b.log", "x y", "é", "[a]", "#a", "!b", "
 SETTINGS = {"GIT_CONFIG_GLOBAL": "/dev/null", "GIT_CONFIG_NOSYSTEM": "1", "HOME": "/nonexistent", "LC_ALL": "C"}
 
 
+# parts of a class, some of which make it match nothing, or end it
+CLASS_PARTS = ["a", "b", "-", "]", "[", ":", "!", "^", "\\]", "\\a", "\\-", "a-b", "A-Z", "a-\\z", "[:", ":]", "[:alpha:]"]
+CLASS_PARTS += ["[:digit:]", "[:upper:]", "[:Alpha:]", "[:a[:digit:]", "[:]", "[::]", "[.a.]", "[=a=]", "[:alpha]", "\\"]
+
+
+def some_class(dice):
+    """a class, which may not end"""
+    parts = [dice.choice(CLASS_PARTS) for _ in range(dice.randint(1, 4))]
+    return "[" + dice.choice(["", "", "!", "^"]) + "".join(parts) + dice.choice(["]", "]", "]", ""])
+
+
 def rule(dice):
     """a line of a rule file, as in gitignore(5)"""
     kind = dice.random()
@@ -29,8 +40,12 @@ def rule(dice):
             name = name[:1] + "*"
         elif change < 0.6:
             name = "?" + name[1:]
-        elif change < 0.7:
+        elif change < 0.65:
             name = "[" + dice.choice(["a-b", "!a", "^b", "a", "A-Z", "[:alpha:]", "!-", "]a"]) + "]" + name[1:]
+        elif change < 0.75:
+            name = some_class(dice) + name[1:]
+        elif change < 0.8:
+            name = name[:1] + some_class(dice)
         names.append(name)
     line = "/".join(names)
     if dice.random() < 0.25:
@@ -91,11 +106,4 @@ def compare(program, dice, folder):
     return True
 
 
-def main():
-    projects = int(sys.argv[2]) if len(sys.argv) > 2 else 100
-    seed = sys.argv[3] if len(sys.argv) > 3 else "1"
-    agrees = lambda dice, folder: compare(running.program, dice, folder)
-    return not running.try_projects("git", projects, seed, agrees)
-
-
-sys.exit(main())
+sys.exit(not running.try_projects("git", compare))

@@ -20,7 +20,10 @@ def run(args, on_terminal):
     if not on_terminal:
         ended = subprocess.run([running.program] + args, env=environment, capture_output=True, timeout=120)
         return ended.returncode, ended.stdout, ended.stderr
-    master, slave = pty.openpty()
+    try:
+        master, slave = pty.openpty()
+    except OSError as error:
+        running.skip("the progress of cindex", f"there is no terminal ({error})")
     child = subprocess.Popen([running.program] + args, env=environment, stdout=subprocess.PIPE, stderr=slave)
     os.close(slave)
     got = b""

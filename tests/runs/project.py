@@ -24,7 +24,10 @@ def lines(dice):
 def fill(dice, folder):
     """makes the files of a project; returns whether no file has a byte that is not UTF-8"""
     all_text = True
-    os.makedirs(f"{folder}/.git")
+    for part in ["objects", "refs"]:
+        os.makedirs(f"{folder}/.git/{part}")
+    with open(f"{folder}/.git/HEAD", "w", encoding="utf-8") as out:
+        out.write("ref: refs/heads/main\n")
     for name in dice.sample(["f", "g.c", "sub/h", "sub/deep/i.py", "t/j", ".k", "a b", "x", "é"], dice.randint(1, 7)):
         path = f"{folder}/{name}"
         os.makedirs(os.path.dirname(path), exist_ok=True)
@@ -87,11 +90,4 @@ def agree(program, dice, folder):
     return True
 
 
-def main():
-    projects = int(sys.argv[2]) // 20 if len(sys.argv) > 2 else 100
-    seed = sys.argv[3] if len(sys.argv) > 3 else "1"
-    agrees = lambda dice, folder: agree(running.program, dice, folder)
-    return not running.try_projects("rg", projects, seed, agrees)
-
-
-sys.exit(main())
+sys.exit(not running.try_projects("rg", agree, 20))

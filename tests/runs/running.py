@@ -61,12 +61,19 @@ def run(args, given=b"", environment={}, seconds=60, space=None):
     return status, read("out"), read("err")
 
 
+def skip(test, why):
+    """Ends the tests, and says why."""
+    print(f"skipped: {test}: {why}")
+    sys.exit(0)
+
+
 def build_preloaded(name, test):
-    """Builds the library of this name, which a run loads first. Without a compiler the test ends here."""
+    """Builds the library of this name, which a run loads first. Without a compiler, and for a static program, the test ends here."""
+    if b"/ld-linux" not in read(program)[:4096]:
+        skip(test, "a static program loads no library (make program builds another)")
     compiler = shutil.which("cc")
     if compiler is None:
-        print(f"skipped: {test}: there is no cc")
-        sys.exit(0)
+        skip(test, "there is no cc")
     subprocess.run([compiler, "-O2", "-shared", "-fPIC", "-o", name + ".so", f"{tests}/{name}.c", "-ldl"], check=True)
 
 
@@ -103,15 +110,19 @@ def complain(what, came):
         print(f"WRONG: {what}; came {came}", flush=True)
 
 
-def try_projects(tool, projects, seed, agrees):
-    """whether in each of random projects `agrees(dice, folder)` beside a tool; leaves the folders where it does not"""
+def try_projects(tool, agrees, searches=1):
+    """Whether in each of random projects `agrees(program, dice, folder)` beside a tool, which is so
+    many searches. The arguments after the program are the number of searches and a seed. The folders
+    where it does not agree stay."""
     if not shutil.which(tool):
         print(f"skipped: {tool} is not installed")
         return True
+    projects = int(sys.argv[2]) // searches if len(sys.argv) > 2 else 100
+    seed = sys.argv[3] if len(sys.argv) > 3 else "1"
     top, failed = tempfile.mkdtemp(), 0
     for number in range(projects):
         folder = f"{top}/{number}"
-        if agrees(random.Random(f"{seed} {number}"), folder):
+        if agrees(program, random.Random(f"{seed} {number}"), folder):
             shutil.rmtree(folder)
         else:
             failed += 1

@@ -1,13 +1,13 @@
 #!/bin/sh
 # Tests the library for C and Rust: C programs under ASan and UBSan, the example of docs/USE.md, and the Rust crate.
-# usage: tests/shell/c_library.sh PROGRAM
+# usage: tests/shell/c_library.sh PROGRAM    LIBRARY is the folder of the library, if it is not out/lib
 # RANDOM_PATTERNS is the number of random patterns and texts that the library and the program are both asked (now 1000), and
 # RANDOM_SPANS that of the patterns whose matches are compared with brute force (now 20000).
 
 . "$(dirname -- "$0")/library.sh"
 
 needs cc
-built=$root/out/lib
+built=$(realpath -- "${LIBRARY:-$root/out/lib}")
 if [ ! -f "$built/libcodesearch.a" ]; then
     skipped "all of ${0##*/}: there is no library (make lib builds it)"
     summary

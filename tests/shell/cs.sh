@@ -143,12 +143,13 @@ holds "cd sub && [ \"\$(cs marker)\" = a.c:marker ]"
 
 # ---- the state ------------------------------------------------------------------------------------------------------------------
 # Of more than 500 files and 1 MB a search leaves a state. In the repository, it replaces what an earlier version left.
-mkdir -p "$HOME/large/.git/codesearch" "$HOME/named" && cd "$HOME/large" || exit 2
+repository "$HOME/large" "$HOME/few" "$HOME/parts" "$HOME/named"
+mkdir "$HOME/large/.git/codesearch" && cd "$HOME/large" || exit 2
 awk 'BEGIN { for (i = 0; i < 600; i++) { name = sprintf("f%03d", i); for (j = 0; j < 500; j++) print i, "line", j > name; close(name) } }'
 echo old > .git/codesearch/state
 cp -r . "$HOME/loose" && rm -r "$HOME/loose/.git"
-cp -r "$HOME/loose" "$HOME/file" && echo 'gitdir: ../named' > "$HOME/file/.git"
-mkdir "$HOME/few" && cd "$HOME/few" && mkdir .git && cp ../large/f59? .
+cp -r "$HOME/loose" "$HOME/file" && echo 'gitdir: ../named/.git' > "$HOME/file/.git"
+cd "$HOME/few" && cp ../large/f59? .
 # the clock before the search is read to the second
 sleep 3.2
 state=$HOME/large/.git/codesearch/state
@@ -160,6 +161,9 @@ gives 1 'cs --no-update nowhere && cs --no-state nowhere'
 holds "[ \"\$(cat '$state')\" = old ]"
 gives 1 'cs nowhere'
 holds "is_state '$state' && cp '$state' '$fresh/state'"
+# with -q a search ends at the first match, and says nothing of the files behind it
+gives 0 "cs -q 'line 7\$'"
+holds "cmp '$state' '$fresh/state'"
 echo '599 line 0 and a marker' >> f599
 holds "[ \"\$(cs marker)\" = 'f599:599 line 0 and a marker' ] && [ \"\$(cs -c '^599 line 0')\" = f599:2 ]"
 holds "cmp '$state' '$fresh/state'"
@@ -186,7 +190,7 @@ sleep 3.2
 gives 0 'cs --update'
 holds "[ '$state' -nt '$fresh/state' ] && [ \"\$(cs -c marker)\" = f599:2 ]"
 # the first state of a large project is joined from the states of its parts, with the bytes of one that is made in two updates
-mkdir -p "$HOME/parts/.git" && cd "$HOME/parts" || exit 2
+cd "$HOME/parts" || exit 2
 state=$PWD/.git/codesearch/state
 seq 13000000 > a
 sleep 3.2
@@ -199,7 +203,7 @@ gives 0 'cs --update'
 holds "cmp '$state' '$fresh/state' && [ \"\$(cs marker)\" = 'd:a last marker' ] && [ \"\$(ls -A .git/codesearch)\" = state ]"
 cd "$HOME/few" && gives 0 'cs "line 7$"' && holds '[ ! -e .git/codesearch ]'
 # what a file .git names is not written to, nor is a plain folder
-cd "$HOME/file" && gives 1 'cs nowhere' && holds '[ -z "$(ls -A ../named)" ]'
+cd "$HOME/file" && gives 1 'cs nowhere' && holds '[ "$(echo $(ls ../named/.git))" = "HEAD objects refs" ]'
 cd "$HOME/loose" && gives 1 'cs nowhere' && holds '[ -z "$(ls | grep -v "^f[0-9]*$")" ]'
 holds "[ \$(stat -c %a '$cache') = 700 ] && [ \$(ls '$cache'/*/state | wc -l) = 2 ] && is_state '$cache'/\$(printf %s \"\$PWD\" | sha1sum | cut -c 1-40)/state"
 gives 1 'XDG_CACHE_HOME=$HOME/other cs nowhere'

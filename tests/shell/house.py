@@ -66,6 +66,8 @@ assert not [*homonyms({"a": ["T"], "b": ["T"]}, {"a": set()})]
 assert [*repeated("a", {"P": "abbrev pub f : N\n", "Q": "pub record f (n : N) : Type 0 where\n"})]
 
 found, types = [], {}
+for path in sorted((top / "tests/libraries").glob("**/*.rs")):
+    found += wide(path.relative_to(top), path.read_text())
 for crate in sorted(it for it in (top / "crates").iterdir() if (it / "src").is_dir()):
     for path in sorted(crate.glob("src/**/*.rt")):
         found += wide(path.relative_to(top), path.read_text())

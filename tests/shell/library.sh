@@ -29,6 +29,13 @@ same() { holds "diff '$fresh/$1' '$fresh/$2' | head -n 10; cmp -s '$fresh/$1' '$
 # silent COMMAND: succeeds if the command prints nothing
 silent() { holds "said=\$($1 2>&1); printf '%s' \"\$said\"; [ -z \"\$said\" ]"; }
 
+# repository FOLDER..: makes what git takes for a repository
+repository() {
+    for kept do
+        mkdir -p "$kept/.git/objects" "$kept/.git/refs" && echo 'ref: refs/heads/main' > "$kept/.git/HEAD" || exit 2
+    done
+}
+
 # summary: the last line, and the status
 summary() {
     printf '%d passed, %d failed\n' $passed $failed

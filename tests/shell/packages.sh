@@ -6,6 +6,11 @@
 . "$(dirname -- "$0")/library.sh"
 
 needs cc strip dpkg-deb pkg-config
+if [ ! -f "$root/crates/codesearch/out/codesearch" ]; then
+    skipped "all of ${0##*/}: packages are made from a program that is built here (make program)"
+    summary
+    exit
+fi
 SOURCE_DATE_EPOCH=1790000000
 export SOURCE_DATE_EPOCH
 version=$(cat "$root/VERSION")

@@ -248,6 +248,70 @@ all; alike -c shared
 # ---- three hosts -----------------------------------------------------------------------------------------------------------------
 command -v parallel > /dev/null || { skipped 'the hosts: GNU parallel is not installed'; summary; exit; }
 for host in $hosts; do mkdir -p "$fresh/$host/srv/parts" "$fresh/$host/srv/src"; done
+
+# Hosts that print what is no line of theirs. Each has the parts of this machine, and an ssh of its own: `cut` ends in the middle of a
+# line, `mark` in that of its last one, `short` does too and says that all is well, `greets` has a banner, and `logs` what it is asked.
+mkdir "$fresh/ssh" "$fresh/odd"
+cat > "$fresh/ssh/ssh" <<'END'
+#!/bin/bash
+printf '%s\n' "$*" >> "${0%/*}/asked"
+while :; do
+    case $1 in -n) shift ;; -o) shift 2 ;; -o*) exit 255 ;; --) shift; break ;; *) break ;; esac
+done
+host=$1 CSPARTS=$PARTS; shift
+case $host in
+    cut) "$@" 2> /dev/null | { head -n 5; printf 'half a li'; }; exit 255 ;;
+    short) "$@" 2> /dev/null | { head -n 5; printf 'half a li'; }; exit 0 ;;
+    mark) "$@" | head -c -2; exit 255 ;;
+    greets) printf 'Welcome\nshared word'; "$@"; code=$?; printf 'Goodbye\nshared word'; exit $code ;;
+    nologin) echo 'This account is not available.'; exit 1 ;;
+    logs) for word; do printf '%s\n%s 0\n%s 1\n' "$word" "$word" "$word"; done > "$LOG"; "$@" ;;
+    *) "$@" ;;
+esac
+END
+chmod +x "$fresh/ssh/ssh"
+csparts search 'shared word' > "$fresh/want"
+lines=$(grep -c . "$fresh/want")
+# odd NAME STATUS LINE HOST..: these hosts in this order; what they print are lines of the parts, and the first and the last print all
+odd() {
+    local name=$1 status=$2 said=$3 option; shift 3
+    printf '%s\n' "$@" > "$fresh/odd/hosts"
+    for option in '' -u; do
+        PATH=$fresh/ssh:$PATH csparts $option -d "$fresh/odd" search 'shared word' > "$fresh/got" 2> "$fresh/err"; expect "$name $option: status" $status $?
+        expect "$name $option: standard error" "$said" "$(cat "$fresh/err")"
+        expect "$name $option: no other line" '' "$(grep -v -x -F -f "$fresh/want" "$fresh/got" | head -n 3)"
+        [ -n "$option" ] || that "$name: the lines of the others" eval 'cmp -s "$fresh/want" <(head -n $lines "$fresh/got") &&
+            cmp -s "$fresh/want" <(tail -n $lines "$fresh/got")'
+    done
+}
+export PARTS=$fresh/parts LOG=$fresh/logged/source/log
+odd 'whole hosts' 0 '' one two
+expect 'all lines of both' $((2 * lines)) "$(grep -c . "$fresh/got")"
+that 'no host is an option of ssh' grep -q -e ' -- one ' "$fresh/ssh/asked"
+odd 'a host that is cut in the middle of a line' 2 'csparts: cut: cut off, status 255' one cut two
+that 'its whole lines are printed' [ "$(grep -c . "$fresh/got")" -gt $((2 * lines)) ]
+odd 'a host that is cut, and says that all is well' 2 'csparts: short: cut off, status 0' one short two
+odd 'a host that is cut in its last line' 2 'csparts: mark: cut off, status 255' one mark two
+expect 'all of its lines are printed' $((3 * lines)) "$(grep -c . "$fresh/got")"
+odd 'a banner' 0 '' greets greets
+expect 'all lines of both' $((2 * lines)) "$(grep -c . "$fresh/got")"
+odd 'a login shell that runs nothing' 2 'csparts: nologin: no answer, status 1' one nologin two
+# a file that has each word of the call, and lines like the marks
+mkdir -p "$fresh/logged/source"; echo 'not asked yet' > "$LOG"; rest
+csparts -d "$fresh/logged" cut "$fresh/logged/source" > "$fresh/due"; csparts -d "$fresh/logged" index
+echo logs > "$fresh/odd/hosts"
+PARTS=$fresh/logged PATH=$fresh/ssh:$PATH csparts -d "$fresh/odd" search -h '' > "$fresh/got" 2> "$fresh/err"; expect 'a log of the call' 0 $?
+that 'a log of the call: lines' cmp "$LOG" "$fresh/got"
+that 'a log of the call has its nonce' grep -q -x '[0-9a-f]\{32\} 0' "$LOG"
+rm "$fresh/ssh/asked"
+odd_option="-oProxyCommand=touch $fresh/hacked"
+for verb in 'search shared' index cut status place; do
+    printf '%s\n' one "$odd_option" > "$fresh/odd/hosts"
+    PATH=$fresh/ssh:$PATH csparts -d "$fresh/odd" $verb < /dev/null > "$fresh/got" 2> "$fresh/err"; expect "$verb: a host that is an option" 2 $?
+    expect "$verb: it is named" "csparts: not the name of a host: $odd_option" "$(cat "$fresh/err")"
+done
+that 'no host is asked' [ ! -e "$fresh/ssh/asked" ]
+
 export CSPARTS=$fresh/asks
 mkdir "$CSPARTS"
 printf '%s\n' $hosts > "$CSPARTS/hosts"

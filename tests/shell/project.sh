@@ -10,7 +10,7 @@ ln -s "$program" "$fresh/cs"
 PATH=$fresh:$PATH
 mkdir -p "$fresh/tree/sub/deep" "$fresh/tree/.hidden" "$fresh/tree/out"
 cd "$fresh/tree" || exit 2
-mkdir .git
+repository .
 printf 'out/\n*.log\n!kept.log\n' > .gitignore
 printf 'x\nab ab\ny\nz\nab ab\n' > f
 printf 'ab\n' > sub/g
@@ -26,8 +26,8 @@ printf 'ab(\n' > 'a*b[c]'
 
 # prints STATUS OUTPUT ERRORS COMMAND: the output and the errors have \n and \0 for a newline and a NUL
 prints() {
-    printf "$2" > "$fresh/wanted"
-    printf "$3" > "$fresh/wanted.err"
+    printf -- "$2" > "$fresh/wanted"
+    printf -- "$3" > "$fresh/wanted.err"
     eval "$4" > "$fresh/came" 2> "$fresh/came.err" < /dev/null
     came=$?
     printf 'status %s\n' "$1" >> "$fresh/wanted.err"
@@ -90,6 +90,26 @@ prints 0 'sub/deep/h.c\0sub/g\0' '' "cs -l -0 ab sub"
 prints 1 'f\n' '' "cs -L zzz f"
 prints 1 '' '' "cs zzz"
 
+# ---- each line of a pattern is a pattern, as in grep ----------------------------------------------------------------------
+nl='
+'
+as_grep() {
+    grep "$@" > "$fresh/wanted"
+    wanted=$?
+    cs "$@" > "$fresh/came" 2> /dev/null < /dev/null
+    came=$?
+    holds "[ $came = $wanted ] || echo 'status $came, not $wanted: $*'; [ $came = $wanted ]"
+    same wanted came
+}
+for pattern in "x${nl}z" "x$nl" "$nl" "${nl}x" "x$nl${nl}z" "zzz${nl}yyy" "AB${nl}Y" "ab ab${nl}b" 'x'; do
+    for option in -n -F -x -i -v -o; do as_grep $option -e "$pattern" f; done
+    as_grep -F -e zzz -e "$pattern" f
+    as_grep "$pattern" f
+done
+prints 0 'x\n' '' "cs -S -e 'x${nl}AB' f"
+prints 2 '' 'cs: bad pattern: a parenthesis closes no group, at byte 4\n' "cs 'ab${nl}c)'"
+prints 2 '' 'cs: bad pattern: a backslash at the end, at byte 3\n' "cs -e ab -e 'ab${nl}\\${nl}c'"
+
 # ---- binary files: one that is met is left out, one that is named matches or not ----------------------------------------
 mkdir bin
 printf 'x\nab\n\0z\nab\n' > bin/b
@@ -115,6 +135,36 @@ prints 0 'bin/n\n' '' "cs -L ab bin bin/b bin/n"
 prints 0 '1\n' '' "printf 'ab\\0' | cs ab - | grep -c -x -e '-: binary file matches'"
 rm -r bin
 
+# ---- the standard input: it is no path, and is read once -----------------------------------------------------------------
+prints 0 'ab 1\n' '' "printf 'ab 1\nx\n' | cs ab -"
+prints 0 '-:ab 1\n-:ab 2\n' '' "printf 'ab 1\nab 2\n' | cs ab - -"
+prints 0 '-:1\n' '' "printf 'ab 1\nab 2\n' | cs -c -m1 ab - -"
+prints 0 '-\n' '' "printf 'ab\n' | cs -l ab - -"
+prints 1 '-\n-\n' '' "printf 'ab\n' | cs -L zzz - -"
+prints 0 '-:ab 1\nsub/g:ab\n' '' "printf 'ab 1\n' | cs ab - sub/g -"
+prints 0 'sub/g:ab\n-:ab 1\n' '' "printf 'ab 1\n' | cs ab sub/g -"
+prints 0 'ab 2\n' '' "printf 'ab 1\nab 2\n' > lines; (read -r first; cs ab -) < lines"
+prints 0 'sub/g\n-\nab\n' '' "printf 'ab\n' | { cs --files sub/g -; cat; }"
+prints 2 '' 'cs: -: cannot be read\n' "cs ab - < /"
+prints 2 '' 'cs: -: cannot be read\n' "cs ab - <&-"
+prints 2 'sub/g:ab\n' 'cs: -: cannot be read\n' "cs ab - sub/g <&-"
+prints 0 '' '' "printf 'ab\n' | cs -q ab - missing"
+prints 1 '' '' "printf 'x\n' | cs -q ab -"
+prints 0 'ab\n' '' "printf 'ab\n' > ./-; printf 'x\n' | cs ab ./-"
+rm ./- lines
+if command -v python3 > /dev/null; then
+    prints 0 'ab\n' '' "python3 -c 'import socket, subprocess
+near, far = socket.socketpair()
+far.send(b\"ab\\n\"); far.close()
+subprocess.run([\"cs\", \"ab\", \"-\"], stdin=near)'"
+fi
+if [ "$(id -u)" -eq 0 ] && command -v setpriv > /dev/null; then
+    printf 'ab\n' > private
+    chmod 600 private
+    prints 0 'ab\n' '' "HOME=/ XDG_CONFIG_HOME= setpriv --reuid 65534 --regid 65534 --clear-groups '$program' cs ab - < private"
+    rm private
+fi
+
 # ---- which files --------------------------------------------------------------------------------------------------------
 prints 0 '.gitignore\n.hidden/i\na*b[c]\nbinary\nf\nkept.log\nname with space\nnew\nline\nsub/deep/h.c\nsub/g\n' '' "cs --files"
 prints 0 'sub/deep/h.c\0sub/g\0' '' "cs --files -0 sub"
@@ -125,7 +175,7 @@ prints 0 'ab\n' '' "cs ab out/ignored"
 if command -v git > /dev/null; then
     mkdir "$fresh/git"
     cp -r . "$fresh/git/tree"
-    (cd "$fresh/git/tree" && rmdir .git && git init -q . && git ls-files -z --cached --others --exclude-standard) | tr '\0' '\n' | sort > "$fresh/wanted"
+    (cd "$fresh/git/tree" && rm -r .git && git init -q . && git ls-files -z --cached --others --exclude-standard) | tr '\0' '\n' | sort > "$fresh/wanted"
     (cd "$fresh/git/tree" && cs --files) | sort > "$fresh/came"
     same wanted came
 fi
@@ -173,6 +223,14 @@ if powerless true 2> /dev/null && ! powerless cat unread > /dev/null 2>&1; then
     chmod 0 .gitignore
     prints 2 'sub/g\n' 'cs: .gitignore: permission denied\ncs: closed: permission denied\n' "powerless cs -l -g sub/g ab"
     chmod 644 .gitignore
+    # in a folder that may not be listed the rule files are looked up by name
+    mkdir -p above/in
+    printf 'j\n' > above/.gitignore
+    printf 'ab\n' | tee above/in/j > above/in/k
+    chmod 111 above
+    prints 0 'above/in/k\n' '' "powerless cs --files above/in"
+    chmod 700 above
+    rm -r above
 else
     skipped 'what may not be read: root may read all files, and setpriv does not take that away'
 fi
@@ -182,6 +240,7 @@ rm -rf closed unread
 # ---- bad input ----------------------------------------------------------------------------------------------------------
 mkdir -p "$fresh/bad/.git/info" "$fresh/bad/sub"
 cd "$fresh/bad" || exit 2
+repository .
 printf 'ab\n' > a
 printf 'ab\n' > sub/b
 # a name that is not UTF-8: the rest is searched
@@ -221,7 +280,7 @@ ln -s rules .gitignore
 prints 0 'a\nrules\nsub/b\n' '' "cs --files"
 rm .gitignore rules
 # what git does not search of a repository inside, this does, by its own rules
-mkdir -p sub/inner/.git
+repository sub/inner
 printf 'x\n' > .gitignore
 printf 'y\n' > sub/inner/.gitignore
 echo ab > sub/inner/x
@@ -234,6 +293,36 @@ rm -r sub/inner .gitignore .ignore
 echo a > .git/info/exclude
 prints 0 'sub/b\n' '' "cs --files"
 prints 0 'a\nsub/b\n' '' "cs --files -u"
+# `info/exclude` may be a link; one to a pipe, to nothing or to itself has no rules
+mv .git/info/exclude .git/rules
+ln -s ../rules .git/info/exclude
+prints 0 'sub/b\n' '' "cs --files"
+for leads in pipe nothing exclude; do
+    rm .git/info/exclude
+    ln -s $leads .git/info/exclude
+    [ $leads != pipe ] || mkfifo .git/info/pipe
+    prints 0 'a\nsub/b\n' '' "timeout 9 cs --files"
+done
+rm .git/info/exclude
+# git takes a folder for a repository whose `.git` has HEAD, objects and refs; a worktree shares the last two
+printf 'b\n' > .gitignore
+for part in HEAD objects refs; do
+    mv .git/$part .git/gone
+    prints 0 'a\nsub/b\n' '' "cs --files"
+    ln -s gone .git/$part
+    prints 0 '.gitignore\na\n' '' "cs --files"
+    rm .git/$part
+    mv .git/gone .git/$part
+done
+mkdir -p .git/worktrees/w "$fresh/worktree"
+echo 'ref: refs/heads/w' > .git/worktrees/w/HEAD
+echo "gitdir: $fresh/bad/.git/worktrees/w" > "$fresh/worktree/.git"
+printf 'a\n' > "$fresh/worktree/.gitignore"
+echo ab > "$fresh/worktree/a"
+prints 0 'a\n' '' "(cd '$fresh/worktree' && cs --files)"
+echo ../.. > .git/worktrees/w/commondir
+prints 0 '.gitignore\n' '' "(cd '$fresh/worktree' && cs --files)"
+rm .gitignore
 prints 0 'ab\n' '' "cs ab a"
 # outside of a repository hidden names are left out
 mkdir "$fresh/plain"
@@ -264,7 +353,10 @@ prints 2 '' 'cs: not always, never or auto: red\n' "cs --color red ab"
 prints 2 '' 'cs: no such type (cs --type-list): zz\n' "cs -t zz ab"
 prints 2 '' 'cs: bad pattern: a parenthesis closes no group\n  a)\n   ^\n' "cs 'a)'"
 prints 2 '' 'cs: bad pattern: a parenthesis closes no group\n  é)\n   ^\n' "cs -e ab -e 'é)' -e '(b'"
-prints 2 '' 'cs: not a glob: *.{c,h\n' "cs -g '*.{c,h' ab"
+prints 2 '' 'cs: not a glob that matches anything: *.{c,h\n' "cs -g '*.{c,h' ab"
+prints 2 '' 'cs: not a glob that matches anything: /\n' "cs -g / ab"
+prints 2 '' 'cs: not a glob that matches anything: !\n' "cs -g '!' ab"
+prints 2 '' 'cs: not a glob that matches anything: [\n' "cs -g '[' ab"
 prints 2 '' 'cs: word 2 is not text\n' "cs ab \"\$(printf '\\377')\""
 prints 0 '' '' "cs -q ab"
 prints 1 '' '' "cs -q zzz"
@@ -274,7 +366,7 @@ prints 0 '' '' "cs --update sub f"
 prints 2 '' 'cs: nowhere: no such file\n' "cs --update nowhere"
 prints 0 '2\n' '' "cs --no-state -c ab f"
 prints 0 '2\n' '' "cs --no-update -c ab f"
-prints 0 'cs 0.9.0\n' '' "cs --version"
+prints 0 'cs 0.9.1\n' '' "cs --version"
 holds "cs --help | grep -q '^usage: cs'"
 holds "cs --type-list | grep -q '^c: '"
 holds "'$program' cs ab sub/g"

@@ -1,0 +1,137 @@
+// A state that is written, opened, and asked for the files of a walk.
+use cs_index::Builder;
+use cs_known::{FileLookup, SkipOptions, StoredFiles};
+use cs_output::Output;
+use cs_state::{StateFile, StateWriter, SummedOutput, Unindexed};
+use cs_tree::{MemStore, Stamp};
+use cs_trigram::Query;
+use std::alloc::Global;
+use std::test::Fail;
+
+/// The trigram of `abc`.
+const ABC: u32 = 0x616263;
+
+fn stamp(inode: u64) -> Stamp {
+    Stamp {
+        device: 1,
+        inode,
+        size: 3,
+        modified: 4,
+        changed: 5,
+    }
+}
+
+/// A state of the texts `/a` and `/b/c`, which has `abc`, the binary file `/b` and `/d`, a text
+/// apart. Their stamps have the inodes 1, 3, 2 and 4.
+fn state(alloc: Global) -> Result<Vec<u8>, Fail> {
+    let mut root = Vec::new(alloc);
+    root.push(String::from_str(alloc, "/")?)?;
+    let mut builder = Builder::new(alloc, &root)?;
+    let _a = builder.add("/a", &[0x626364])?;
+    let _c = builder.add("/b/c", &[ABC])?;
+    let mut out = SummedOutput::new(alloc, Vec::new(alloc));
+    out.append(&builder.finish()?)?;
+    let mut writer = StateWriter::new(out)?;
+    writer.stamp(&stamp(1))?;
+    writer.stamp(&stamp(3))?;
+    writer.other("/b", Unindexed::Binary, &stamp(2))?;
+    writer.other("/d", Unindexed::Apart, &stamp(4))?;
+    Ok(writer.finish()?)
+}
+
+/// The files of these bytes that a search knows.
+fn files_of<'b>(
+    alloc: Global,
+    bytes: &'b [u8],
+    options: SkipOptions,
+    query: &Query,
+) -> Result<Option<StoredFiles<MemStore<'b>>>, Fail> {
+    let Some(file) = StateFile::open(alloc, MemStore::new(bytes, 1 << 16))? else {
+        return Ok(None);
+    };
+    let store = MemStore::new(bytes, 1 << 16);
+    Ok(StoredFiles::open(alloc, options, query, file, store)?)
+}
+
+const PLAIN: SkipOptions = SkipOptions {
+    prints_unmatched: false,
+    leaves_out_binary: true,
+};
+
+const INVERTED: SkipOptions = SkipOptions {
+    prints_unmatched: true,
+    leaves_out_binary: true,
+};
+
+const AS_TEXT: SkipOptions = SkipOptions {
+    prints_unmatched: false,
+    leaves_out_binary: false,
+};
+
+/// The walk of a project: each name, with the inode of its stamp, and the lookup in a search for
+/// `abc`, plainly, with `-v` and with `-a`.
+const WALK: &[(&str, u64, [FileLookup; 3])] = &[
+    (
+        "/0",
+        1,
+        [
+            FileLookup::Unknown,
+            FileLookup::Unknown,
+            FileLookup::Unknown,
+        ],
+    ),
+    (
+        "/a",
+        1,
+        [FileLookup::Skipped, FileLookup::Known, FileLookup::Skipped],
+    ),
+    (
+        "/b",
+        2,
+        [FileLookup::Skipped, FileLookup::Skipped, FileLookup::Known],
+    ),
+    (
+        "/b/c",
+        3,
+        [FileLookup::Known, FileLookup::Known, FileLookup::Known],
+    ),
+    (
+        "/d",
+        4,
+        [FileLookup::Known, FileLookup::Known, FileLookup::Known],
+    ),
+    (
+        "/d",
+        1,
+        [
+            FileLookup::Unknown,
+            FileLookup::Unknown,
+            FileLookup::Unknown,
+        ],
+    ),
+    (
+        "/e",
+        1,
+        [
+            FileLookup::Unknown,
+            FileLookup::Unknown,
+            FileLookup::Unknown,
+        ],
+    ),
+];
+
+#[test]
+fn files_of_a_walk(rt: HostRuntime) -> Result<(), Fail> {
+    let alloc = rt.alloc();
+    let bytes = state(alloc)?;
+    for (column, options) in [PLAIN, INVERTED, AS_TEXT].iter().enumerate() {
+        let Some(mut files) = files_of(alloc, &bytes, *options, &Query::Tri(ABC))? else {
+            return Err(Fail::new("no state"));
+        };
+        for (name, inode, want) in WALK {
+            let found = files.find(name, &stamp(*inode))?;
+            assert!(rt; found == want[column], "{name} {column}");
+        }
+    }
+    Ok(())
+}

@@ -1,0 +1,4 @@
+// Trees, sources and sinks.
+mod buffered;
+mod files;
+mod walking;

@@ -1,0 +1,2 @@
+// Scans of files.
+mod scanning;

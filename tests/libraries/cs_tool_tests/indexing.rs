@@ -1,0 +1,4 @@
+// Jobs of cindex.
+mod jobs;
+mod rows;
+mod stored;

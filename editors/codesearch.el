@@ -1,7 +1,7 @@
 ;;; codesearch.el --- Search this project with cs -*- lexical-binding: t -*-
 
 ;; Copyright (c) 2026 The codesearch authors. BSD 3-clause license.
-;; Version: 0.9.0
+;; Version: 0.9.1
 
 ;;; Commentary:
 

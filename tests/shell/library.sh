@@ -7,6 +7,8 @@ fresh=$(mktemp -d) || exit 2
 trap 'rm -rf "$fresh"' EXIT
 passed=0
 failed=0
+# A test that runs make does not take the variables of the make that runs it.
+unset MAKEFLAGS MFLAGS MAKELEVEL
 
 skipped() { printf 'skipped: %s\n' "$1"; }
 

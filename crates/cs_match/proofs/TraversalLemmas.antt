@@ -385,3 +385,33 @@ only_one t = record {
   ends = λ ms a. append-nil _;
   entered = λ enter ms a. append-nil _ ∙ entered-prefix t enter ms a;
 }
+
+-- no part is left
+pub accepts_some_none : (b enter : Bool) → (b || (enter && false)) ≡ b
+accepts_some_none b enter = ap (λ n. b || n) (and-false enter) ∙ or-false b
+
+pub all_passed : (p : ℕ) (es first whole : List Bool) → drop p es ≡ drop p first → take p es ++ drop (p + 0) first ≡ whole → es ≡ whole
+all_passed p es first whole ahead h =
+    let e : p ≡ p + 0 = omega arith in
+    sym (take-append-drop p es) ∙ ap (λ xs. take p es ++ xs) (ahead ∙ ap (λ k. drop k first) e) ∙ h
+
+-- a loop accepts, whose body can begin if the loop can or if the body has ended
+pub accepts_loop : (ended enter bare skipped : Bool) →
+    ((ended || ((enter || ended) && bare)) || (skipped && enter)) ≡ (ended || (enter && (skipped || bare)))
+accepts_loop true enter bare skipped = refl
+accepts_loop false false bare true = refl
+accepts_loop false false bare false = refl
+accepts_loop false true true true = refl
+accepts_loop false true false true = refl
+accepts_loop false true true false = refl
+accepts_loop false true false false = refl
+
+-- the flag of a loop, and those of the loops in it
+pub loop_flag : (l : List Bool) (i n : ℕ) (b : Bool) (bs : List Bool) → take (suc n) (drop i l) ≡ b ∷ bs →
+    (get_or l i false ≡ b) × (take n (drop (i + 1) l) ≡ bs)
+loop_flag [] zero n b bs h = (cc, cc)
+loop_flag [] (suc i) n b bs h = (cc, cc)
+loop_flag (x ∷ l) zero n b bs h = (cc, cc)
+loop_flag (x ∷ l) (suc i) n b bs h =
+    let next : suc i + 1 ≡ suc (i + 1) = omega arith in
+    rw next (loop_flag l i n b bs h)

@@ -457,10 +457,10 @@ fn advance(
         Fragment::Rep(x, least) => {
             let again = at.loops[cursor.repeat];
             cursor.repeat += 1;
-            let accepting = advance(x, enter || again, at, entries, cursor, steps);
-            accepting || (*least == 0 && enter)
+            // The operators `|` and `&` make no branch. Each would have all clauses to prove.
+            let accepting = advance(x, enter | again, at, entries, cursor, steps);
+            accepting | ((*least == 0) & enter)
         }
-        // The operator `&` makes no branch. Each branch would have all clauses to prove.
         Fragment::LineStart => enter & at.here.first,
         Fragment::LineEnd => enter & at.here.last,
         Fragment::WordEdge => enter & at.here.edge,

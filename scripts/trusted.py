@@ -23,7 +23,7 @@ CONTRACTS = [
     ("cindex_stored", "cs_cindex/src/job.rt", [], 1250),
     ("run", "codesearch/src/running.rt", [], 2435),
     ("execute", "codesearch/src/execution.rt", [], 2570),
-    ("run_project", "cs_fresh/src/answer.rt", [], 3350),
+    ("run_project", "cs_project/src/answer.rt", [], 3500),
 ]
 
 # the files of the traits
@@ -33,7 +33,7 @@ TRAITS = {
     "Source": "cs_tree/src/sink.rt",
     "Sink": "cs_tree/src/sink.rt",
     "Store": "cs_tree/src/store.rt",
-    "Output": "cs_output/src/output.rt",
+    "Output": "cs_tree/src/output.rt",
     "IndexFolder": "cs_storage/src/folder.rt",
 }
 

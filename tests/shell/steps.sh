@@ -23,11 +23,11 @@ swap(steps, own);
 let before = self.own.take();
 self.steps = own;
 *matcher = other;
-use cs_prefilter::Steps as Counter;
+use cs_tree::Steps as Counter;
 LINES
 
 # (not in the definition, nor the counter of a new matcher or finder, nor that of a question of the walk, nor the tokens of an element)
-found=$(find crates/cs_prefilter/src crates/cs_listing/src crates/cs_match/src crates/cs_search/src -name '*.rt' ! -path crates/cs_prefilter/src/steps.rt -exec grep -nHE "$wrong" {} + |
+found=$(find crates/cs_prefilter/src crates/cs_listing/src crates/cs_match/src crates/cs_search/src -name '*.rt' -exec grep -nHE "$wrong" {} + |
     grep -vE '^crates/cs_match/src/(matcher|spans).rt:[0-9]+: +(steps|read): Steps::new\(\),$' |
     grep -vE '^crates/cs_listing/src/entries.rt:[0-9]+: .*\blayers\.is_left_out\(path, (true|false), &mut Steps::new\(\)\)' |
     grep -vE '^crates/cs_listing/src/user_settings.rt:[0-9]+: +Ok\(rules\.decide\(&names, false, &mut Steps::new\(\)\)' |

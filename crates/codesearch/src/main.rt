@@ -16,10 +16,10 @@
 //! `main` gives them the arguments, the disk, the standard streams (`disk.rt`) and the `DiskFolder`
 //! of `cs_storage`, whose file is opened once as a `DiskStore`.
 //!
-//! `cs` is `run_project` of `cs_fresh` over the disk (`project.rt`), with the state of the project
-//! as its knowledge: `state_folder.rt` says where that is, and `project_state.rt` makes it after
-//! the output, or takes it away. The first state of a large project is joined from those of its
-//! parts, each in a `PartFile`.
+//! `cs` is `run_project` of `cs_project` over the disk (`project.rt`), with the state of the
+//! project as its knowledge: `state_folder.rt` says where that is, and `project_state.rt` makes it
+//! after the output, or takes it away. The first state of a large project is joined from those of
+//! its parts, each in a `PartFile`.
 #![tactic(auto)]
 
 ghost use Rattle.std.specs.Prelude.{◌≡◌};

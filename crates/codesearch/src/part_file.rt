@@ -4,8 +4,7 @@
 // that nothing is left of it, however the run ends.
 ghost use Rattle.std.specs.Prelude.{◌≡◌, [], IfOk};
 
-use cs_output::{Output, Sent};
-use cs_tree::{DiskStore, TreeFault};
+use cs_tree::{DiskStore, Output, Sent, TreeFault};
 use std::alloc::AllocError;
 use std::fs::{self, File};
 use std::io::{self, ErrorKind, Write};

@@ -6,11 +6,11 @@ use crate::call::absolute_folder;
 use crate::disk::{SettingFolders, is_input_piped, project_tree, watched_output};
 use crate::given::Given;
 use crate::project_state::DiskState;
-use crate::watched::WatchedSink;
-use cs_fresh::{FreshFault, ProjectCall, SinkOutput, run_project};
+use crate::watched::{LineSink, WatchedSink};
 use cs_listing::UserFiles;
+use cs_project::{FreshFault, ProjectCall, run_project};
 use cs_storage::StorageFault;
-use cs_tree::{IoFault, StdSink, StdSource, write_all};
+use cs_tree::{IoFault, Sink, SinkOutput, StdSink, StdSource, write_all};
 use std::alloc::AllocError;
 use std::cell::Cell;
 use std::io::IsTerminal;
@@ -31,7 +31,7 @@ pub(crate) fn search_on_disk(
         return Ok(refuse(rt, "cs: no current folder\n"));
     };
     let settings = SettingFolders::of_environment(rt)?;
-    search_project(rt, words, folder, &settings)
+    run_on_disk(rt, words, folder, &settings)
 }
 
 /// Prints the line of an error, and returns the exit status.
@@ -43,7 +43,7 @@ pub(crate) fn refuse(rt: &HostRuntime, line: &str) -> u8 {
 /// Does what the arguments of `cs` ask for, and returns the exit status. What was not known is
 /// learned after the output, also after one that was closed.
 #[inline(never)]
-fn search_project<'a>(
+fn run_on_disk<'a>(
     rt: &HostRuntime,
     words: &'a [String],
     folder: &'a str,
@@ -79,13 +79,20 @@ fn search_project<'a>(
     let (mut state, mut known) = DiskState::open(rt, &mut tree, folder, cache)?;
     let mut input = StdSource::new(rt.stdin());
     let is_closed = Cell::new(false);
-    let mut out = SinkOutput::new(watched_output(rt, &is_closed)?, terminal);
+    let mut lines = LineSink {
+        inner: watched_output(rt, &is_closed)?,
+        by_lines: terminal,
+    };
     let mut err = WatchedSink::new(StdSink::new(rt.stderr()));
-    let answer = run_project(&call, &mut tree, &mut input, &mut known, &mut out, &mut err);
-    let is_flushed = out.flush().is_ok();
+    let (answer, fault) = {
+        let mut out = SinkOutput::new(&mut lines);
+        let answer = run_project(&call, &mut tree, &mut input, &mut known, &mut out, &mut err);
+        (answer, out.fault())
+    };
+    let is_flushed = lines.flush().is_ok();
     let end = RunEnd {
         answer,
-        is_printed: is_flushed && out.fault() != Some(IoFault::Failed),
+        is_printed: is_flushed && fault != Some(IoFault::Failed),
         is_closed: is_closed.get(),
         has_errors: err.is_used,
     };

@@ -6,13 +6,12 @@ use crate::part_file::PartFile;
 use crate::progress::{CountedTree, ProgressLine};
 use crate::state_folder::{StateFolder, project_root};
 use cs_learned::{ClosedState, StateKnowledge};
-use cs_output::Output;
 use cs_state::StateFile;
 use cs_storage::{
     DiskFolder, DiskIndex, IndexFolder, IndexUpdate, NewFile, StorageFault, begin_update,
     finish_update, replace_file,
 };
-use cs_tree::{DiskStore, DiskTree, Look, Store};
+use cs_tree::{DiskStore, DiskTree, Look, Output, Store};
 use cs_update::{SeenFile, StateParts, UpdateCall, UpdateFault, first_state, is_due, update_state};
 use std::alloc::AllocError;
 use std::fs::File;

@@ -14,10 +14,9 @@ use cs_args::{
 };
 use cs_cindex::{JobCall, cindex_stored};
 use cs_index::StoredIndex;
-use cs_output::Output;
 use cs_search::{SearchCall, Status, cgrep, csearch, csearch_stored};
 use cs_storage::IndexUpdate;
-use cs_tree::{IoFault, Sink, Source, Store, Tree, read_part};
+use cs_tree::{IoFault, Output, Sink, Source, Store, Tree, read_part};
 use std::alloc::Global;
 
 /// The index file as it was found.

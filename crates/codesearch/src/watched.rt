@@ -1,6 +1,6 @@
 // Standard output and standard error of `cs`, by what happened to them.
 
-use cs_fresh::INPUT_LINE;
+use cs_project::INPUT_LINE;
 use cs_tree::{IoFault, Sink};
 use std::cell::Cell;
 use std::io::{self, ErrorKind, Write};
@@ -55,6 +55,35 @@ impl<O: Sink + Drop> Sink for WatchedSink<O> {
     fn write(&mut self, buf: &[u8]) -> Result<usize, IoFault> {
         self.is_used |= buf != INPUT_LINE;
         self.inner.write(buf)
+    }
+
+    fn flush(&mut self) -> Result<(), IoFault> {
+        self.inner.flush()
+    }
+
+    fn failures(&self) -> u64 {
+        self.inner.failures()
+    }
+}
+
+/// A sink that is flushed at the end of each line if `by_lines`, as for a terminal. It is
+/// unmodelled.
+#[derive(Drop)]
+pub(crate) struct LineSink<O: Drop> {
+    pub(crate) inner: O,
+    pub(crate) by_lines: bool,
+}
+
+impl<O: Sink + Drop> Sink for LineSink<O> {
+    ghost failed = { λ s. O.failed s.inner };
+
+    #[inline(always)]
+    fn write(&mut self, buf: &[u8]) -> Result<usize, IoFault> {
+        let n = self.inner.write(buf)?;
+        if self.by_lines && buf[..n].ends_with(b"\n") {
+            self.inner.flush()?;
+        }
+        Ok(n)
     }
 
     fn flush(&mut self) -> Result<(), IoFault> {

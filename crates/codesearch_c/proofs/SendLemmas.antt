@@ -9,7 +9,7 @@ use Rattle.cs_trigram.specs.contracts.queries.Query as Query
 use Rattle.cs_trigram.proofs.queries.Query.TheLaws.TheKnot as query
 use Rattle.cs_trigram.proofs.scanner.Scanner.TheSendSync as scanner
 use Rattle.cs_index.proofs.writing.builder.Builder.TheSendSync as builder
-use Rattle.cs_prefilter.specs.contracts.steps.Steps as Steps
+use Rattle.cs_tree.specs.contracts.steps.Steps as Steps
 use Rattle.cs_prefilter.proofs.prefilter.Prefilter.TheSendSync as prefilter
 use Rattle.cs_match.specs.contracts.spans.pass.Pass as Pass
 use Rattle.cs_match.specs.contracts.matcher.cache.Cache as Cache

@@ -10,6 +10,7 @@ use crate::lines::{LineBounds, count_lines, first_line, list_lines};
 use crate::reports::{GrepInput, style_of};
 use crate::slot::{Held, HeldPattern, Slot};
 use cs_index::Index;
+use cs_lines::LineSearch;
 use cs_match::{Cache, Matcher, Pass, Program};
 use cs_search::{Printer, grep_text};
 use cs_syntax::{Pattern, parse};
@@ -107,16 +108,17 @@ impl HeldPattern {
         let Ok(name) = from_utf8(input.name) else {
             return NOT_UTF8;
         };
-        let Ok(mut matcher) = matcher_of(alloc, &mut self.cache, &self.program) else {
+        let Ok(matcher) = matcher_of(alloc, &mut self.cache, &self.program) else {
             return MEMORY;
         };
         let printer = Printer {
             name,
             style: style_of(input.style),
         };
+        let mut search = LineSearch::of_lines(matcher);
         let mut report = MemSink::new(alloc, usize::MAX);
-        let answer = grep_text(&printer, input.text, &mut matcher, &mut report);
-        self.cache = Some(matcher.into_cache());
+        let answer = grep_text(&printer, input.text, &mut search, &mut report);
+        self.cache = Some(search.into_matcher().into_cache());
         match answer {
             Ok(_) => copy_items(report.bytes(), out, len),
             Err(_) => MEMORY,

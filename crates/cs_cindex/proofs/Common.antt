@@ -32,7 +32,7 @@ pub use Rattle.cs_index.specs.Stored.{StandsIn, StoredParts}
 pub use Rattle.cs_index.specs.Tables.{OpensAs, OpensAsTables, TableParts}
 pub use Rattle.cs_index.specs.declared.fault.IndexFault.{IndexFault}
 pub use Rattle.cs_merge.proofs.DecodedContentLemmas.{from_list_all, map_of_entries, set_of_items}
-pub use Rattle.cs_output.specs.declared.output.Sent.{Sent}
+pub use Rattle.cs_tree.specs.declared.output.Sent.{Sent}
 pub use Rattle.cs_tree.proofs.GrowsLemmas.{Grows-chain, Grows-same, leaves_flushed}
 pub use Rattle.cs_tree.proofs.PathSetLemmas.{alike, entries_in_order, same_set, tied_is, tied_same}
 pub use Rattle.cs_tree.proofs.PrefixLemmas.{prefix_all, prefix_left, prefix_none, prefix_right}

@@ -9,7 +9,7 @@ use Rattle.cs_index.specs.Tables.{TableParts, TablesIn}
 use Rattle.cs_index.specs.declared.fault.IndexFault.{IndexFault}
 use Rattle.cs_args.specs.declared.fault.CindexFault.{CindexFault}
 use Rattle.cs_merge.specs.Replacing.{is_replaced}
-use Rattle.cs_output.specs.declared.output.Sent.{Sent}
+use Rattle.cs_tree.specs.declared.output.Sent.{Sent}
 use Rattle.cs_cindex.specs.Merges.{IsMergeRefusal, MergesShort}
 use Rattle.cs_cindex.specs.FitTables.{IsFitFor}
 use Rattle.cs_cindex.specs.Next.{IsReducedIndex}

@@ -6,7 +6,7 @@ use Rattle.cs_index.specs.LeastLength.{least_length}
 use Rattle.cs_index.specs.Encoding.{Entry, encoding_of}
 use Rattle.cs_args.specs.declared.fault.CindexFault.{CindexFault}
 use Rattle.cs_args.specs.declared.fault.CindexFault.TheVariants.{TooLarge, Memory}
-use Rattle.cs_output.specs.declared.output.Sent.{Sent}
+use Rattle.cs_tree.specs.declared.output.Sent.{Sent}
 use Rattle.cs_history.specs.Premises.{IsShort}
 use Rattle.cs_history.specs.Replies.{IsLong}
 use Rattle.cs_cindex.specs.Effects.{Effects}

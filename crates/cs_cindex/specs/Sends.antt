@@ -1,7 +1,7 @@
 -- What the output of a new index is given. docs/PROMISES.md, "Jobs of cindex".
 use Rattle.std.specs.Prelude.{◌≡◌, ◌++◌, ℕ, List, IfOk, Result}
 use Rattle.cs_tree.specs.declared.fault.IoFault.{IoFault}
-use Rattle.cs_output.specs.declared.output.Sent.{Sent}
+use Rattle.cs_tree.specs.declared.output.Sent.{Sent}
 use Rattle.cs_storage.specs.FileAfter.{IsGiven}
 use Rattle.cs_storage.specs.declared.update.IndexUpdate.{IndexUpdate}
 

@@ -8,7 +8,7 @@ use Rattle.cs_tree.specs.declared.fault.IoFault.TheVariants.{Failed}
 use Rattle.cs_args.specs.declared.jobs.IndexJob.{IndexJob}
 use Rattle.cs_args.specs.declared.fault.CindexFault.{CindexFault}
 use Rattle.cs_args.specs.declared.fault.CindexFault.TheVariants.{TooLarge}
-use Rattle.cs_output.specs.declared.output.Sent.{Sent}
+use Rattle.cs_tree.specs.declared.output.Sent.{Sent}
 use Rattle.cs_history.specs.Premises.{IsShort}
 use Rattle.cs_cindex.specs.Effects.{Effects, PrintsWalk, PrintsWalkPrefix}
 use Rattle.cs_cindex.specs.Files.{IsIndexingFault}

@@ -7,8 +7,7 @@ ghost use Rattle.cs_tree.specs.PathSet as set;
 use crate::printing::{print_fault, print_skipped, print_walk_faults};
 use cs_args::{CindexFault, FileFault};
 use cs_index::{BuildFault, Builder};
-use cs_output::{Output, Sent};
-use cs_tree::{Sink, Tree, TreeReader, Walked, walk};
+use cs_tree::{Output, Sent, Sink, Tree, TreeReader, Walked, walk};
 use cs_trigram::{Scan, ScanFault, Scanner};
 use std::alloc::{AllocError, Global};
 

@@ -5,9 +5,8 @@ ghost use Rattle.cs_cindex.specs.Cited.{KeepsOldIndex, KeepsTree, KeepsTrees, Is
 use crate::printing::list_old;
 use crate::walked::walked_index;
 use cs_args::{CindexFault, IndexJob, Reply};
-use cs_output::Output;
 use cs_storage::IndexUpdate;
-use cs_tree::{IoFault, MemStore, Sink, Store, Tree};
+use cs_tree::{IoFault, MemStore, Output, Sink, Store, Tree};
 use std::alloc::Global;
 
 /// A job to run, and the allocator for its work.

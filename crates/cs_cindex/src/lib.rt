@@ -6,7 +6,7 @@
 //! `cindex` runs one job after another. A job cleans its paths, opens the old index and tests what
 //! it needs of it, builds the index of what it walks, merges the two, and flushes. If the walked
 //! paths cover the old index, the index of the walk is the result, and the old lists are only read
-//! for damage. The bytes of the new index go to an `Output` of `cs_output` as they are made; only
+//! for damage. The bytes of the new index go to an `Output` of `cs_tree` as they are made; only
 //! an index that has to be merged is in memory as a whole. Each contract is stated for every
 //! history whose index is the old bytes, so a call needs no record of earlier jobs.
 //!

@@ -9,8 +9,7 @@ use crate::old::open_old;
 use cs_args::{CindexFault, IndexJob};
 use cs_index::{Index, IndexFault, Tables};
 use cs_merge::{MergeFault, is_replaced, is_whole_stored, merge_stored};
-use cs_output::{Output, Sent};
-use cs_tree::{IoFault, PathFault, Sink, Store, Tree, clean, reduce};
+use cs_tree::{IoFault, Output, PathFault, Sent, Sink, Store, Tree, clean, reduce};
 use std::alloc::{AllocError, Global};
 
 /// Sends the index after a job that walks, over the old index, or over none with `-reset`.

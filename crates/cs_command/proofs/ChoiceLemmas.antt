@@ -4,7 +4,7 @@ use Rattle.std.specs.Prelude.{Option, Some, None}
 use Rattle.std.specs.List.{filter_map, list_any, cons_option}
 use Rattle.std.specs.Option.{option_to_list}
 use Rattle.cs_listing.specs.Choices.{Settings}
-use Rattle.cs_lines.specs.declared.words.WordItem.{WordItem}
+use Rattle.cs_command.specs.declared.words.WordItem.{WordItem}
 use Rattle.cs_command.specs.Choices.{Choice, Chooses, ChoosesAll, is_fault_of, IsChoiceIn}
 use Rattle.std.proofs.lemmas.Bool.{or_cases, or_left, or_right, false≢true}
 use Rattle.cs_command.specs.declared.fault.RequestFault.{RequestFault}

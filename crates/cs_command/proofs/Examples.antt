@@ -5,13 +5,13 @@ use Rattle.std.specs.Str.{chars, is_utf8}
 use lib.Utf8.{encode}
 use Rattle.cs_syntax.specs.ByteKinds.{byte_kind_of}
 use Rattle.cs_syntax.specs.Items.{next_token}
-use Rattle.cs_lines.specs.Words.{after_letters, items_after}
-use Rattle.cs_lines.specs.LetterCase.{case_after}
-use Rattle.cs_lines.specs.Settings.{no_switches, with_switch}
-use Rattle.cs_lines.specs.declared.settings.Task.TheVariants.{Files, Update}
-use Rattle.cs_lines.specs.declared.named.Switch.TheVariants.{NoState, NoUpdate, Unrestricted}
-use Rattle.cs_lines.specs.declared.words.ItemFault.TheVariants.{Unknown}
-use Rattle.cs_lines.specs.declared.words.WordItem.TheVariants.{Switch}
+use Rattle.cs_command.specs.Words.{after_letters, items_after}
+use Rattle.cs_command.specs.LetterCase.{case_after}
+use Rattle.cs_command.specs.Settings.{no_switches, with_switch}
+use Rattle.cs_command.specs.declared.settings.Task.TheVariants.{Files, Update}
+use Rattle.cs_command.specs.declared.named.Switch.TheVariants.{NoState, NoUpdate, Unrestricted}
+use Rattle.cs_command.specs.declared.words.ItemFault.TheVariants.{Unknown}
+use Rattle.cs_command.specs.declared.words.WordItem.TheVariants.{Switch}
 use Rattle.cs_syntax.specs.declared.fault.PatternFault.TheVariants.{StrayClose}
 use Rattle.cs_command.specs.Choices.{hidden, depth, glob, may_update, of_type}
 use Rattle.cs_command.specs.Lines.{lines_of}

@@ -6,3 +6,6 @@ pub mod ChoiceLemmas
 pub mod PatternLemmas
 pub mod RequestLemmas
 mod Examples
+mod WordLemmas
+mod WordExamples
+mod CaseLemmas

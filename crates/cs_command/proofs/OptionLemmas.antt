@@ -1,6 +1,6 @@
 -- One more item of a list.
 use Rattle.std.proofs.Common.{◌≡◌, List, [], ◌∷◌, length, refl, sym, ap, arith}
-use Rattle.cs_lines.specs.declared.words.WordItem.{WordItem}
+use Rattle.cs_command.specs.declared.words.WordItem.{WordItem}
 use Rattle.cs_command.specs.Options.{with_item, options_after}
 use Rattle.cs_command.specs.declared.options.Options.{Options}
 

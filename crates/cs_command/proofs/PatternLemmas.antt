@@ -10,7 +10,7 @@ use Rattle.cs_syntax.specs.Joining.{either, pattern_of}
 use Rattle.cs_syntax.specs.Weight.{max_weight, weight}
 use Rattle.cs_syntax.specs.declared.fault.PatternError.{PatternError}
 use Rattle.cs_syntax.specs.declared.fault.PatternFault.TheVariants.{TooLarge, Memory}
-use Rattle.cs_lines.specs.declared.settings.PatternStyle.{PatternStyle}
+use Rattle.cs_command.specs.declared.settings.PatternStyle.{PatternStyle}
 use Rattle.cs_command.specs.Patterns.{is_capital, escapes, has_capital_after, parsed_text, pattern_at, located, joined}
 use Rattle.cs_command.specs.WordLines.{LineView, line_view}
 use Rattle.cs_command.specs.declared.fault.RequestFault.{RequestFault}

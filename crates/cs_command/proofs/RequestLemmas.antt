@@ -2,11 +2,11 @@
 use Rattle.std.proofs.Common.{◌≡◌, ℕ, Bool, true, List, sym, ap, ◌∙◌}
 use Rattle.std.specs.Prelude.{if◌then◌else◌, Option, Some, None, Ok, Err}
 use Rattle.cs_syntax.specs.Matching.{Tree}
-use Rattle.cs_lines.specs.LetterCase.{case_of}
-use Rattle.cs_lines.specs.declared.letter_case.LetterCase.{LetterCase}
-use Rattle.cs_lines.specs.declared.settings.Limits.{Limits}
-use Rattle.cs_lines.specs.declared.settings.Switches.{Switches}
-use Rattle.cs_lines.specs.declared.words.WordItem.{WordItem}
+use Rattle.cs_command.specs.LetterCase.{case_of}
+use Rattle.cs_command.specs.declared.letter_case.LetterCase.{LetterCase}
+use Rattle.cs_command.specs.declared.settings.Limits.{Limits}
+use Rattle.cs_command.specs.declared.settings.Switches.{Switches}
+use Rattle.cs_command.specs.declared.words.WordItem.{WordItem}
 use Rattle.cs_command.specs.Choices.{choices_of, may_update}
 use Rattle.cs_command.specs.Patterns.{pattern_in}
 use Rattle.cs_command.specs.Requests.{RequestView, asked_pattern, request_by}

@@ -3,13 +3,13 @@
 use Rattle.std.specs.Prelude.{ℕ, ◌≡◌, ◌++◌, ◌&&◌, not, nat_eq, Bool, true, false, if◌then◌else◌, List, [], ◌∷◌, Option, Some, None}
 use Rattle.std.specs.List.{filter_map, list_any}
 use Rattle.cs_listing.specs.Choices.{Settings, AddsGlob, AddsType}
-use Rattle.cs_lines.specs.declared.named.Switch.TheVariants as on
-use Rattle.cs_lines.specs.declared.named.Valued.{Valued}
-use Rattle.cs_lines.specs.declared.named.Valued.TheVariants as valued
-use Rattle.cs_lines.specs.declared.settings.FileChoice.{FileChoice}
-use Rattle.cs_lines.specs.declared.settings.Switches.{Switches}
-use Rattle.cs_lines.specs.declared.words.WordItem.{WordItem}
-use Rattle.cs_lines.specs.declared.words.WordItem.TheVariants as item
+use Rattle.cs_command.specs.declared.named.Switch.TheVariants as on
+use Rattle.cs_command.specs.declared.named.Valued.{Valued}
+use Rattle.cs_command.specs.declared.named.Valued.TheVariants as valued
+use Rattle.cs_command.specs.declared.settings.FileChoice.{FileChoice}
+use Rattle.cs_command.specs.declared.settings.Switches.{Switches}
+use Rattle.cs_command.specs.declared.words.WordItem.{WordItem}
+use Rattle.cs_command.specs.declared.words.WordItem.TheVariants as item
 use Rattle.cs_command.specs.Options.{part_of}
 use Rattle.cs_command.specs.Values.{text_of}
 use Rattle.cs_command.specs.declared.fault.RequestFault.{RequestFault}

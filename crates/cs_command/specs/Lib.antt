@@ -1,4 +1,8 @@
 -- Definitions that public contracts cite: what words ask for.
+pub mod Named
+pub mod Words
+pub mod Settings
+pub mod LetterCase
 pub mod Options
 pub mod Values
 pub mod WordLines

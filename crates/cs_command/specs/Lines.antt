@@ -1,8 +1,8 @@
 -- The lines of errors. Words are lists of bytes.
 use Rattle.std.specs.Prelude.{ℕ, Bool, ◌||◌, ◌&&◌, not, nat_le, nat_lt, if◌then◌else◌, List, ◌++◌, take, replicate, count_by, codes, decimal}
 use Rattle.std.specs.List.{list_any}
-use Rattle.cs_lines.specs.declared.words.ItemFault.{ItemFault}
-use Rattle.cs_lines.specs.declared.words.ItemFault.TheVariants.{Unknown, LeftOut, ExtraValue, NoValue, Memory as ItemMemory}
+use Rattle.cs_command.specs.declared.words.ItemFault.{ItemFault}
+use Rattle.cs_command.specs.declared.words.ItemFault.TheVariants.{Unknown, LeftOut, ExtraValue, NoValue, Memory as ItemMemory}
 use Rattle.cs_syntax.specs.FaultTexts.{fault_text}
 use Rattle.cs_syntax.specs.declared.fault.PatternError.{PatternError}
 use Rattle.cs_syntax.specs.declared.fault.PatternFault.{PatternFault}

@@ -1,10 +1,10 @@
 -- What the options among items ask for: the switches one after another, and the last value of each option.
 use Rattle.std.specs.Prelude.{ℕ, List, [], ◌∷◌, Some, None}
-use Rattle.cs_lines.specs.Settings.{no_switches, with_switch}
-use Rattle.cs_lines.specs.declared.named.Valued.{Valued}
-use Rattle.cs_lines.specs.declared.named.Valued.TheVariants as valued
-use Rattle.cs_lines.specs.declared.words.WordItem.{WordItem}
-use Rattle.cs_lines.specs.declared.words.WordItem.TheVariants as item
+use Rattle.cs_command.specs.Settings.{no_switches, with_switch}
+use Rattle.cs_command.specs.declared.named.Valued.{Valued}
+use Rattle.cs_command.specs.declared.named.Valued.TheVariants as valued
+use Rattle.cs_command.specs.declared.words.WordItem.{WordItem}
+use Rattle.cs_command.specs.declared.words.WordItem.TheVariants as item
 use Rattle.cs_command.specs.declared.options.WordPart.{WordPart}
 use Rattle.cs_command.specs.declared.options.OptionValues.{OptionValues}
 use Rattle.cs_command.specs.declared.options.Options.{Options}

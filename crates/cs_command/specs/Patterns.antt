@@ -6,9 +6,9 @@ use Rattle.cs_syntax.specs.Matching.{Tree}
 use Rattle.cs_syntax.specs.Parsing.{parse_result, tree, rejected}
 use Rattle.cs_syntax.specs.Joining.{either, whole_line, literal, pattern_of}
 use Rattle.cs_syntax.specs.declared.fault.PatternError.{PatternError}
-use Rattle.cs_lines.specs.declared.letter_case.LetterCase.{LetterCase}
-use Rattle.cs_lines.specs.declared.letter_case.LetterCase.TheVariants.{Exact, Fold, Smart}
-use Rattle.cs_lines.specs.declared.settings.PatternStyle.{PatternStyle}
+use Rattle.cs_command.specs.declared.letter_case.LetterCase.{LetterCase}
+use Rattle.cs_command.specs.declared.letter_case.LetterCase.TheVariants.{Exact, Fold, Smart}
+use Rattle.cs_command.specs.declared.settings.PatternStyle.{PatternStyle}
 use Rattle.cs_command.specs.Values.{and_then, text_of}
 use Rattle.cs_command.specs.WordLines.{LineView, lines_in}
 use Rattle.cs_command.specs.declared.fault.RequestFault.{RequestFault}

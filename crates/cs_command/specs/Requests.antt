@@ -3,12 +3,12 @@ use Rattle.std.specs.Prelude.{ℕ, ◌≡◌, ◌≢◌, ◌⊎◌, Bool, if◌t
 use Rattle.cs_syntax.specs.Matching.{Tree}
 use Rattle.cs_listing.specs.Choices.{Settings}
 use Rattle.cs_listing.specs.Models.{chosen_in}
-use Rattle.cs_lines.specs.LetterCase.{case_of}
-use Rattle.cs_lines.specs.Words.{items_of}
-use Rattle.cs_lines.specs.declared.letter_case.LetterCase.{LetterCase}
-use Rattle.cs_lines.specs.declared.settings.Limits.{Limits}
-use Rattle.cs_lines.specs.declared.settings.Switches.{Switches}
-use Rattle.cs_lines.specs.declared.words.WordItem.{WordItem}
+use Rattle.cs_command.specs.LetterCase.{case_of}
+use Rattle.cs_command.specs.Words.{items_of}
+use Rattle.cs_command.specs.declared.letter_case.LetterCase.{LetterCase}
+use Rattle.cs_command.specs.declared.settings.Limits.{Limits}
+use Rattle.cs_command.specs.declared.settings.Switches.{Switches}
+use Rattle.cs_command.specs.declared.words.WordItem.{WordItem}
 use Rattle.cs_command.specs.Choices.{Choice, choices_of, ChoosesAll, IsChoiceIn, may_update}
 use Rattle.cs_command.specs.Options.{options_of}
 use Rattle.cs_command.specs.Patterns.{pattern_in}

@@ -1,11 +1,11 @@
 -- Which words are patterns, and which are paths.
 use Rattle.std.specs.Prelude.{ℕ, Bool, true, false, if◌then◌else◌, List, [], ◌∷◌, Option, Some, None}
 use Rattle.std.specs.List.{filter_map}
-use Rattle.cs_lines.specs.declared.named.Valued.TheVariants as valued
-use Rattle.cs_lines.specs.declared.settings.Task.{Task}
-use Rattle.cs_lines.specs.declared.settings.Task.TheVariants as task
-use Rattle.cs_lines.specs.declared.words.WordItem.{WordItem}
-use Rattle.cs_lines.specs.declared.words.WordItem.TheVariants as item
+use Rattle.cs_command.specs.declared.named.Valued.TheVariants as valued
+use Rattle.cs_command.specs.declared.settings.Task.{Task}
+use Rattle.cs_command.specs.declared.settings.Task.TheVariants as task
+use Rattle.cs_command.specs.declared.words.WordItem.{WordItem}
+use Rattle.cs_command.specs.declared.words.WordItem.TheVariants as item
 use Rattle.cs_command.specs.Options.{part_of}
 use Rattle.cs_command.specs.declared.options.WordPart.{WordPart}
 use Rattle.cs_command.specs.declared.texts.Texts.{Texts}

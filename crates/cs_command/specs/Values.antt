@@ -4,7 +4,7 @@ use Rattle.std.specs.List.{list_all}
 use Rattle.std.specs.Map.{lookup}
 use Rattle.std.specs.Str.{is_utf8}
 use Rattle.std.specs.Str.Parse.{without_leading_plus, digits_value}
-use Rattle.cs_lines.specs.declared.settings.Limits.{Limits}
+use Rattle.cs_command.specs.declared.settings.Limits.{Limits}
 use Rattle.cs_command.specs.declared.fault.RequestFault.{RequestFault}
 use Rattle.cs_command.specs.declared.fault.RequestFault.TheVariants.{NoNumber, NoColour}
 use Rattle.cs_command.specs.declared.options.WordPart.{WordPart}

@@ -7,12 +7,14 @@ ghost use Rattle.cs_listing.specs.Choices.{AddsGlob, AddsType};
 ghost use Rattle.cs_command.specs.Choices.{ChoosesAll, hidden_if, ignored_if, depth_of, choices_by, choice_by, choice_in, IsChoiceIn, chooses_files, may_update};
 ghost use Rattle.cs_command.specs.Values.{text_of};
 ghost use Rattle.cs_command.specs.declared.fault.RequestFault.TheVariants.{Memory, NoGlob, NoType};
-ghost use Rattle.cs_lines.specs.declared.words.WordItem.TheVariants.{Value};
+ghost use Rattle.cs_command.specs.declared.words.WordItem.TheVariants.{Value};
 
 use crate::fault::RequestFault;
+use crate::named::{Switch, Valued};
 use crate::options::WordPart;
+use crate::settings::{FileChoice, Switches};
 use crate::values::text_of;
-use cs_lines::{FileChoice, Switch, Switches, Valued, WordItem};
+use crate::words::WordItem;
 use cs_listing::Choices;
 
 /// Chooses by the switches and the depth.

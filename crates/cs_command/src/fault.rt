@@ -1,7 +1,7 @@
 // Why words ask for nothing.
 
 use crate::options::WordPart;
-use cs_lines::ItemFault;
+use crate::words::ItemFault;
 use cs_syntax::PatternError;
 use std::alloc::{AllocError, AllocFailed};
 

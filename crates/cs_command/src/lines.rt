@@ -8,7 +8,7 @@ ghost use Rattle.cs_command.specs.Values.{text_of};
 use crate::fault::RequestFault;
 use crate::options::WordPart;
 use crate::values::text_of;
-use cs_lines::ItemFault;
+use crate::words::ItemFault;
 use cs_syntax::{PatternError, PatternFault};
 use itoa::Buffer;
 use std::alloc::{AllocError, Global};

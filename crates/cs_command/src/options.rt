@@ -2,7 +2,9 @@
 ghost use Rattle.std.specs.Prelude.{◌≡◌};
 ghost use Rattle.cs_command.specs.Options.{no_values, with_value, with_item, options_of};
 
-use cs_lines::{Switches, Valued, WordItem};
+use crate::named::Valued;
+use crate::settings::Switches;
+use crate::words::WordItem;
 
 /// A part of a word: from a byte to its end.
 #[derive(Clone, Copy, Drop)]

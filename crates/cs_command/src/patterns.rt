@@ -7,10 +7,11 @@ ghost use Rattle.cs_command.specs.WordLines.{line_view};
 ghost use Rattle.cs_command.specs.declared.fault.RequestFault.TheVariants.{Memory};
 
 use crate::fault::RequestFault;
+use crate::letter_case::LetterCase;
 use crate::options::WordPart;
+use crate::settings::PatternStyle;
 use crate::values::text_of;
 use crate::word_lines::{WordLine, lines_in};
-use cs_lines::{LetterCase, PatternStyle};
 use cs_syntax::{Pattern, PatternError, PatternFault, parse};
 use std::alloc::Global;
 

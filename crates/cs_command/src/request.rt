@@ -7,11 +7,13 @@ ghost use Rattle.cs_command.specs.declared.fault.RequestFault.TheVariants.{Memor
 
 use crate::choosing::{choose_kinds, choose_names, may_update};
 use crate::fault::RequestFault;
+use crate::letter_case::{LetterCase, case_of};
 use crate::options::{Options, options_of};
 use crate::patterns::pattern_in;
+use crate::settings::{Limits, Switches};
 use crate::texts::{Texts, needs_pattern, texts_of};
 use crate::values::{colour_in, limits_in, size_in};
-use cs_lines::{ItemFault, LetterCase, Limits, Switches, WordItem, case_of, read_items};
+use crate::words::{ItemFault, WordItem, read_items};
 use cs_listing::Choices;
 use cs_syntax::Pattern;
 use std::alloc::Global;

@@ -3,8 +3,10 @@ ghost use Rattle.std.specs.Prelude.{◌≡◌, IfOk};
 ghost use Rattle.std.specs.List.{filter_map};
 ghost use Rattle.cs_command.specs.Texts.{given_pattern, operand, needs_pattern, texts_of, shown};
 
+use crate::named::Valued;
 use crate::options::WordPart;
-use cs_lines::{Task, Valued, WordItem};
+use crate::settings::Task;
+use crate::words::WordItem;
 use std::alloc::{AllocError, Global};
 
 /// The parts of words that are patterns, and the words that are paths.

@@ -4,7 +4,7 @@ ghost use Rattle.cs_command.specs.Values.{text_of, bytes_of, number_of, number_i
 
 use crate::fault::RequestFault;
 use crate::options::{OptionValues, WordPart};
-use cs_lines::Limits;
+use crate::settings::Limits;
 use std::str::from_utf8;
 
 /// The bytes of a part of a word.

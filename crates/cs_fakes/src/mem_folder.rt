@@ -5,9 +5,8 @@ ghost use Rattle.cs_fakes.specs.MemFolders.{folder_view, bytes_view, left_view, 
 ghost use Rattle.cs_tree.specs.ByteList.{AreBytes};
 
 use crate::types::{MemFile, MemFolder, MemIndex, MemLeft, MemOpened, MemVisit};
-use cs_output::Sent;
 use cs_storage::{IndexFolder, StorageFault};
-use cs_tree::{IoFault, Store};
+use cs_tree::{IoFault, Sent, Store};
 use std::alloc::{AllocError, Global};
 
 impl MemFolder {

@@ -5,8 +5,8 @@ ghost use Rattle.std.specs.Option.{ForNone, ForSome};
 ghost use Rattle.cs_tree.specs.Folders.{are_elements};
 ghost use Rattle.cs_tree.specs.Cover.{is_absolute};
 
-use cs_output::Sent;
 use cs_storage::StorageFault;
+use cs_tree::Sent;
 use std::alloc::Global;
 
 /// A tree in memory. Its model is its snapshot.

@@ -47,6 +47,7 @@ plain = record {
     each = false;
     nul = false;
     colour = false;
+    spaced = false;
   };
 }
 

@@ -43,6 +43,7 @@ plain = record {
     each = false;
     nul = false;
     colour = false;
+    spaced = false;
   };
 }
 

@@ -6,7 +6,7 @@ use Rattle.cs_lines.specs.Project.{ItemShown, nothing_shown}
 use Rattle.cs_lines.specs.Shown.{between, following}
 use Rattle.cs_lines.specs.declared.form.ShowOptions.{ShowOptions}
 use Rattle.cs_lines.specs.declared.search.LineSearch.{LineSearch}
-use Rattle.cs_fresh.specs.Searched.{are_marked, binary_as, item_groups, items_printed, shown_of}
+use Rattle.cs_project.specs.Searched.{are_marked, binary_as, item_groups, items_printed, shown_of}
 use Rattle.cs_state.specs.Known.{ProjectState}
 use Rattle.cs_known.specs.Learned.{Run, StillHolds, View}
 use Rattle.cs_known.specs.Unprinted.{IsQueryOf, SkippedPrintNothing}

@@ -7,8 +7,8 @@ use Rattle.cs_trigram.specs.declared.queries.Query.{Query}
 use Rattle.cs_lines.specs.declared.binary.BinaryFiles.{BinaryFiles}
 use Rattle.cs_lines.specs.declared.form.ShowOptions.{ShowOptions}
 use Rattle.cs_state.specs.Known.{ProjectState}
-use Rattle.cs_fresh.specs.Knowledge.{HoldsAsBefore, SkipsNothingShown}
-use Rattle.cs_fresh.specs.Searched.{binary_as, item_groups}
+use Rattle.cs_project.specs.Knowledge.{HoldsAsBefore, SkipsNothingShown}
+use Rattle.cs_project.specs.Searched.{binary_as, item_groups}
 use Rattle.cs_known.specs.KnownFiles.{AreOptions, IsFound, Knows}
 use Rattle.cs_known.specs.Skipped.{is_skipped}
 use Rattle.cs_known.specs.Unprinted.{IsSkippedBelow, SkippedPathsPrintNothing}

@@ -4,7 +4,7 @@ use Rattle.std.specs.List.{AllByRecursion}
 use Rattle.cs_tree.specs.Snapshot.{Item}
 use Rattle.cs_tree.specs.declared.tree.Stamp.{Stamp}
 use Rattle.cs_index.specs.OpenedParts.{Parts}
-use Rattle.cs_fresh.specs.Noted.{AreSeen}
+use Rattle.cs_project.specs.Noted.{AreSeen}
 use Rattle.cs_state.specs.Known.{Known}
 use Rattle.cs_known.specs.Learned.{IsLearnedIn, Run}
 use Rattle.cs_known.specs.declared.seen.SeenFile.{SeenFile}

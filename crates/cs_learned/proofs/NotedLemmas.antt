@@ -2,7 +2,7 @@
 use Rattle.std.proofs.Common.{◌≡◌, ◌∙◌, ◌++◌, ℕ, List, [], ◌∷◌, Option, Some, ap, subst, sym}
 use Rattle.std.specs.Prelude.{string_bytes}
 use Rattle.cs_tree.specs.declared.tree.Stamp.{Stamp}
-use Rattle.cs_fresh.specs.Noted.{AreSeen, NotesNothing, NotesStamp}
+use Rattle.cs_project.specs.Noted.{AreSeen, NotesNothing, NotesStamp}
 use Rattle.cs_known.specs.declared.seen.SeenFile.{SeenFile}
 use Rattle.cs_learned.specs.NotedFiles.{AreSeenBelow, noted_below, noted_in}
 use Rattle.cs_learned.specs.declared.known_project.KnownProject.{KnownProject}

@@ -2,8 +2,8 @@
 use Rattle.std.proofs.Common.{◌≡◌, ℕ, Bool, false, List, Option, None, Some, subst, sym}
 use Rattle.std.specs.Prelude.{IfOk, IfSome, Result, Ok, Err, string_bytes}
 use Rattle.cs_tree.specs.declared.tree.Stamp.{Stamp}
-use Rattle.cs_fresh.specs.Knowledge.{HoldsAsBefore, SearchedTree, SkipsNothingShown}
-use Rattle.cs_fresh.specs.Searched.{binary_as}
+use Rattle.cs_project.specs.Knowledge.{HoldsAsBefore, SearchedTree, SkipsNothingShown}
+use Rattle.cs_project.specs.Searched.{binary_as}
 use Rattle.cs_known.specs.KnownFiles.{AreOptions, Knows}
 use Rattle.cs_known.specs.declared.known_files.KnownFiles.{KnownFiles}
 use Rattle.cs_learned.specs.ClosedStates.{IsPreparedFor, IsStillKnown, IsUnread}

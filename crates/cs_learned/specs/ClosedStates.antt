@@ -2,8 +2,8 @@
 use Rattle.std.specs.Prelude.{◌≡◌, ℕ, List, Option, Some, IfSome, false}
 use Rattle.cs_lines.specs.declared.search.LineSearch.{LineSearch}
 use Rattle.cs_trigram.specs.declared.queries.Query.{Query}
-use Rattle.cs_fresh.specs.Knowledge.{SearchedTree}
-use Rattle.cs_fresh.specs.Searched.{binary_as}
+use Rattle.cs_project.specs.Knowledge.{SearchedTree}
+use Rattle.cs_project.specs.Searched.{binary_as}
 use Rattle.cs_state.specs.Known.{ProjectState}
 use Rattle.cs_state.specs.ProjectStates.{IsState}
 use Rattle.cs_known.specs.KnownFiles.{AreOptions}

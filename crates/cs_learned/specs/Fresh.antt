@@ -7,7 +7,7 @@ use Rattle.cs_trigram.specs.declared.queries.Query.{Query}
 use Rattle.cs_lines.specs.Findings.{Finding}
 use Rattle.cs_lines.specs.declared.form.ShowOptions.{ShowOptions}
 use Rattle.cs_lines.specs.declared.search.LineSearch.{LineSearch}
-use Rattle.cs_fresh.specs.Searched.{NamedItem, are_marked, binary_as, items_printed}
+use Rattle.cs_project.specs.Searched.{NamedItem, are_marked, binary_as, items_printed}
 use Rattle.cs_state.specs.Known.{ProjectState}
 use Rattle.cs_known.specs.Skipped.{is_skipped}
 use Rattle.cs_known.specs.Learned.{Run, StillHolds, View}

@@ -5,8 +5,8 @@ use Rattle.cs_lines.specs.declared.binary.BinaryFiles.{BinaryFiles}
 use Rattle.cs_lines.specs.declared.form.ShowOptions.{ShowOptions}
 use Rattle.cs_lines.specs.declared.search.LineSearch.{LineSearch}
 use Rattle.cs_trigram.specs.declared.queries.Query.{Query}
-use Rattle.cs_fresh.specs.Knowledge.{SearchedTree}
-use Rattle.cs_fresh.specs.Searched.{binary_as}
+use Rattle.cs_project.specs.Knowledge.{SearchedTree}
+use Rattle.cs_project.specs.Searched.{binary_as}
 use Rattle.cs_state.specs.Known.{ProjectState}
 use Rattle.cs_known.specs.KnownFiles.{AreOptions, IsFound, KeepsKnown, Knows}
 use Rattle.cs_known.specs.Learned.{Run, StillHolds}

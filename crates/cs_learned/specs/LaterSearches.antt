@@ -9,7 +9,7 @@ use Rattle.cs_index.specs.OpenedParts.{Parts, files_in}
 use Rattle.cs_lines.specs.Findings.{Finding}
 use Rattle.cs_lines.specs.declared.form.ShowOptions.{ShowOptions}
 use Rattle.cs_lines.specs.declared.search.LineSearch.{LineSearch}
-use Rattle.cs_fresh.specs.Noted.{AreSeen}
+use Rattle.cs_project.specs.Noted.{AreSeen}
 use Rattle.cs_state.specs.Known.{Known, ProjectState, is_old}
 use Rattle.cs_known.specs.Learned.{IsLearnedIn, ReadsAs, ReadsAsBefore, Run, View}
 use Rattle.cs_known.specs.Unprinted.{IsQueryOf, view_below}

@@ -3,7 +3,7 @@ use Rattle.std.specs.Prelude.{◌≡◌, ℕ, List, ◌++◌, map, Option, Some,
 use Rattle.std.specs.List.{AllByRecursion}
 use Rattle.cs_tree.specs.Snapshot.{Item}
 use Rattle.cs_tree.specs.declared.tree.Stamp.{Stamp}
-use Rattle.cs_fresh.specs.Noted.{AreSeen, NotedFile}
+use Rattle.cs_project.specs.Noted.{AreSeen, NotedFile}
 use Rattle.cs_known.specs.Learned.{View}
 use Rattle.cs_known.specs.Unprinted.{view_below}
 use Rattle.cs_known.specs.declared.seen.SeenFile.{SeenFile}

@@ -2,8 +2,8 @@
 ghost use Rattle.std.specs.Prelude.{◌≡◌, ◌<◌, ◌++◌, [], true, Some, IfOk, string_bytes};
 ghost use Rattle.std.specs.List.{All};
 ghost use Rattle.cs_tree.specs.Cover.{is_absolute};
-ghost use Rattle.cs_fresh.specs.Knowledge.{SkipsNothingShown};
-ghost use Rattle.cs_fresh.specs.Noted.{NotesStamp};
+ghost use Rattle.cs_project.specs.Knowledge.{SkipsNothingShown};
+ghost use Rattle.cs_project.specs.Noted.{NotesStamp};
 ghost use Rattle.cs_learned.specs.KnownProjects.{IsFoundIn, IsKnownFor, KeepsFiles};
 ghost use Rattle.cs_learned.specs.Learnable.{IsLearnable};
 

@@ -1,9 +1,9 @@
 // The state file of a project as the knowledge of a search.
 ghost use Rattle.std.specs.Prelude.{◌≡◌, ℕ, List, [], false, IfOk, IfSome, string_bytes};
 ghost use Rattle.std.specs.List.{All};
-ghost use Rattle.cs_fresh.specs.Knowledge.{HoldsAsBefore, SearchedTree};
-ghost use Rattle.cs_fresh.specs.Noted.{NotesNothing};
-ghost use Rattle.cs_fresh.specs.Searched.{binary_as};
+ghost use Rattle.cs_project.specs.Knowledge.{HoldsAsBefore, SearchedTree};
+ghost use Rattle.cs_project.specs.Noted.{NotesNothing};
+ghost use Rattle.cs_project.specs.Searched.{binary_as};
 ghost use Rattle.cs_learned.specs.ClosedStates.{AsksFor, IsPreparedFor, IsStillKnown, IsUnread};
 ghost use Rattle.cs_learned.specs.KnownProjects.{AreKnownFor};
 ghost use Rattle.cs_learned.specs.Learnable.{IsLearnable};
@@ -11,9 +11,9 @@ ghost use Rattle.cs_learned.specs.NotedFiles.{AreSeenBelow, noted_in};
 
 use crate::closed_state::{ClosedState, PreparedState};
 use crate::known_project::KnownProject;
-use cs_fresh::{AskedSearch, Knowledge};
 use cs_known::{SeenFile, SkipOptions, StoredFiles};
 use cs_lines::BinaryFiles;
+use cs_project::{AskedSearch, Knowledge};
 use cs_state::{FirstBytes, StateFile, SummedBytes};
 use cs_tree::{IoFault, Stamp, Store};
 use cs_trigram::{Query, query};

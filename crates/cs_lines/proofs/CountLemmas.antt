@@ -1,5 +1,5 @@
 -- How many lines of a text are wanted.
-use Rattle.std.proofs.Common.{◌≡◌, ℕ, suc, ◌+◌, ◌-◌, ◌<◌, Bool, true, false, not, cond, nat_lt, List, [], ◌∷◌, ◌++◌, ◌≤◌, length, length-append, take, drop, Option, None, Some, refl, ap, ◌∙◌, arith, if◌then◌else◌}
+use Rattle.std.proofs.Common.{◌≡◌, ℕ, suc, ◌+◌, ◌-◌, ◌<◌, Bool, true, false, not, cond, nat_le, List, [], ◌∷◌, ◌++◌, ◌≤◌, length, length-append, take, drop, Option, None, Some, refl, sym, ap, ◌∙◌, arith, if◌then◌else◌}
 use Rattle.std.proofs.lemmas.Bool.Decides.{nat_tests}
 use Rattle.std.proofs.lemmas.List.Elements.{All-tail}
 use Rattle.std.proofs.lemmas.List.Sums.{sum_by-cons, sum_by-append}
@@ -8,6 +8,10 @@ use Rattle.cs_match.specs.LastPart.{last_line}
 use Rattle.cs_match.specs.Lines.{lines, terminated_lines}
 use Rattle.cs_match.specs.NoNewline.{HasNoNewline}
 use Rattle.cs_match.specs.Skipping.{AreWholeLines, NoneMatch, IsLineAfter}
+use Rattle.std.proofs.lemmas.Bool.{false≢true}
+use Rattle.cs_lines.specs.Counts.{IsCount, ended_by, is_enough}
+use Rattle.cs_lines.specs.declared.stream.Ended.{Ended}
+use Rattle.cs_lines.specs.declared.stream.Ended.TheVariants.{Whole}
 use Rattle.cs_lines.specs.Shown.{at_most}
 use Rattle.cs_lines.proofs.SearchLemmas.{lines_to}
 use Rattle.cs_lines.proofs.TextLemmas.{lines_are}
@@ -71,14 +75,43 @@ pub count_if : (invert : Bool) (has_match : List ℕ → Bool) (ls : List (List 
     count_by (λ line. if invert then not (has_match line) else has_match line) ls ≡ count_by (λ line. if t then not (has_match line) else has_match line) ls
 count_if invert has_match ls t is = ap (λ (b : Bool). count_by (λ line. if b then not (has_match line) else has_match line) ls) is
 
--- if no line may be marked
-pub none_marked : (most : Option ℕ) → at_most most 1 ≡ 0 → (n : ℕ) → at_most most n ≡ 0
-none_marked None e n = let wrong : ⊥ = omega (arith, e) in absurd wrong
-none_marked (Some most) e n = omega (arith, e)
+-- ---- counts up to a limit
 
-pub some_marked : (most : Option ℕ) → 0 < at_most most 1 → (n : ℕ) → nat_lt 0 n ≡ nat_lt 0 (at_most most n)
-some_marked None e n = refl
-some_marked (Some most) e n = grind (arith, nat_tests, e)
+pub is_count : (most : Option ℕ) (a x : ℕ) → a ≡ x → IsCount most a x
+is_count most a x e = (omega (arith, e), ap (at_most most) e)
+
+pub count_both : (most : Option ℕ) (a x b y : ℕ) → IsCount most a x → IsCount most b y → IsCount most (a + b) (x + y)
+count_both None a x b y p q = (omega (arith, p.0, q.0), omega (arith, p.1, q.1))
+count_both (Some most) a x b y p q = (omega (arith, p.0, q.0), omega (arith, p.0, p.1, q.0, q.1))
+
+-- so many are enough, whatever follows
+pub count_enough : (most : Option ℕ) (a x y : ℕ) → is_enough most a ≡ true → IsCount most a x → IsCount most a (x + y)
+count_enough None a x y e p = absurd (false≢true e)
+count_enough (Some most) a x y e p = let low : most ≤ a = grind (arith, nat_tests, e) in (omega (arith, p.0), omega (arith, p.0, low))
+
+pub enough_more : (most : Option ℕ) (a x : ℕ) → is_enough most a ≡ true → a ≤ x → is_enough most x ≡ true
+enough_more None a x e low = absurd (false≢true e)
+enough_more (Some most) a x e low = grind (arith, nat_tests, e, low)
+
+pub few_enough : (most : Option ℕ) (a x : ℕ) → is_enough most a ≡ false → IsCount most a x → is_enough most x ≡ false
+few_enough None a x e p = refl
+few_enough (Some most) a x e p =
+    let low : a < most = grind (arith, nat_tests, e) in
+    let same : x ≡ a = omega (arith, low, p.0, p.1) in
+    ap (nat_le most) same ∙ e
+
+pub ended_enough : (most : Option ℕ) (wanted : ℕ) (ended : Ended) → is_enough most wanted ≡ true → Whole ≡ ended_by most wanted ended
+ended_enough most wanted ended e = sym (ap (λ (b : Bool). if b then Whole else ended) e)
+
+pub ended_whole : (most : Option ℕ) (wanted : ℕ) → Whole ≡ ended_by most wanted Whole
+ended_whole most wanted = by (is_enough most wanted)
+  where
+    by : (b : Bool) → Whole ≡ (if b then Whole else Whole)
+    by true = refl
+    by false = refl
+
+pub ended_few : (most : Option ℕ) (wanted : ℕ) (ended : Ended) → is_enough most wanted ≡ false → ended ≡ ended_by most wanted ended
+ended_few most wanted ended e = sym (ap (λ (b : Bool). if b then Whole else ended) e)
 
 -- the lines of a text: those that have ended, and the last one
 pub count_split : (test : List ℕ → Bool) (text : List ℕ) (end : ℕ) → AreWholeLines (take end text) → HasNoNewline (drop end text) →

@@ -2,6 +2,7 @@
 use Rattle.std.proofs.Common.{◌≡◌, ℕ, Bool, true, false, List, [], ◌∷◌, ◌++◌, Some, None, refl, codes}
 use Rattle.std.specs.Str.{bytes_eq}
 use Rattle.std.specs.Fmt.{digits}
+use Rattle.cs_match.specs.LastPart.{last_part}
 use Rattle.cs_match.specs.Lines.{lines}
 use Rattle.cs_lines.specs.declared.form.LineForm.{LineForm}
 use Rattle.cs_lines.specs.declared.form.Mode.TheVariants.{Lines, Counts, Names, Others}
@@ -12,6 +13,7 @@ use Rattle.cs_lines.specs.Findings.{Finding}
 use Rattle.cs_lines.specs.Project.{nothing_shown, text_shown}
 use Rattle.cs_lines.specs.declared.binary.BinaryFiles.TheVariants.{WithoutMatch, Binary, Text}
 use Rattle.cs_lines.specs.Shown.{text_groups, joined, between}
+use Rattle.cs_lines.specs.Work.{file_work, part_work, walks}
 
 marks : List Bool
 marks = false ∷ false ∷ true ∷ false ∷ false ∷ false ∷ true ∷ []
@@ -51,6 +53,7 @@ numbered = record {
   only = false;
   each = false;
   nul = false;
+  spaced = false;
   colour = false;
 }
 
@@ -234,3 +237,25 @@ a_binary_file_as_text : (text_shown plain finding (codes "f") Text binary).group
     ≡ codes "f:1:ab ab\n" ∷ codes "f:3:ab ab\n" ∷ []
 unfolding plain numbered binary finding is_ab lines digits spans_if
 a_binary_file_as_text = refl
+
+-- ---- steps
+
+plain_lines_are_walked_once : walks plain ≡ 1
+unfolding plain
+plain_lines_are_walked_once = refl
+
+inverted_lines_are_walked_twice : walks inverted ≡ 2
+unfolding inverted plain
+inverted_lines_are_walked_twice = refl
+
+held_lines_are_walked_three_times : walks lines_before ≡ 3
+unfolding lines_before plain
+held_lines_are_walked_three_times = refl
+
+ten_bytes_and_four_dropped : part_work lines_before 1 10 4 ≡ 42302
+unfolding lines_before plain
+ten_bytes_and_four_dropped = refl
+
+file_of_four_bytes : file_work plain 1 (97 ∷ 10 ∷ 97 ∷ 97 ∷ []) ≡ 16936
+unfolding plain last_part
+file_of_four_bytes = refl

@@ -5,7 +5,8 @@ use Rattle.cs_syntax.specs.Matching.{Tree, MatchesSpan, HasMatch}
 use Rattle.cs_match.specs.Glushkov.{IsExpanded}
 use Rattle.cs_match.specs.Passes.{PassesFindEnds, ends_in}
 use Rattle.cs_match.specs.Span.{AreSpansFrom, HasNoMatchOf, IsFirstOf, IsMatchOf, IsWholeWord}
-use Rattle.cs_lines.specs.Findings.{HasFinding, HasWord}
+use Rattle.std.specs.Prelude.{IfSome, MatchOption, Some}
+use Rattle.cs_lines.specs.Findings.{HasFinding, HasWord, found_tree}
 use Rattle.cs_lines.specs.Forms.{Span}
 use Rattle.cs_lines.specs.declared.search.LineSearch.{LineSearch}
 
@@ -150,7 +151,7 @@ matches_by false t s = (
   ),
 )
 
-pub has_finding : (s : LineSearch) (t : Tree) → s.matcher.tree ≡ t → s.finder.tree ≡ t → IsExpanded t →
+pub has_finding : (s : LineSearch) (t : Tree) → s.matcher.tree ≡ t → found_tree s ≡ Some t → IsExpanded t →
     ((whole : Bool) (line : List ℕ) (tree : Tree) (from until : ℕ) → IsExpanded tree → PassesFindEnds whole line tree from until) → HasFinding s
 unfolding HasFinding
 has_finding s t lines spans expanded finds =
@@ -164,9 +165,9 @@ has_finding s t lines spans expanded finds =
             let by = matches_by whole t line in (
               λ e.
                   let h = by.0 (some.0 e) in
-                  (subst (λ tree. HasMatch tree line) (sym lines) h.0, λ w. subst (λ tree. HasWord tree line) (sym spans) (h.1 w)),
-              λ h. some.1 (by.1 (subst (λ tree. HasMatch tree line) lines h.0, λ w. subst (λ tree. HasWord tree line) spans (h.1 w))),
+                  (subst (λ tree. HasMatch tree line) (sym lines) h.0, λ w. subst (λ tree. IfSome tree (λ t. HasWord t line)) (sym spans) (h.1 w)),
+              λ h. some.1 (by.1 (subst (λ tree. HasMatch tree line) lines h.0, λ w. subst (λ tree. IfSome tree (λ t. HasWord t line)) spans (h.1 w))),
             ),
-        λ line. subst (λ tree. AreSpansFrom true whole tree line 0 0 (all line).0) (sym spans) (all line).1,
+        λ line. subst (λ tree. MatchOption tree ((all line).0 ≡ []) (λ t. AreSpansFrom true whole t line 0 0 (all line).0)) (sym spans) (all line).1,
       ),
     )

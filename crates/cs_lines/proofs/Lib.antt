@@ -7,11 +7,15 @@ mod TextLemmas
 mod MarkLemmas
 mod FindingLemmas
 mod ExistenceLemmas
+mod FileLemmas
 mod StreamLemmas
 mod SourceLemmas
 mod LawLemmas
 mod CountLemmas
 mod SpanListLemmas
-mod WordLemmas
-mod WordExamples
-mod CaseLemmas
+mod Printing
+mod NumberLemmas
+mod BufferLemmas
+mod ReadLemmas
+mod PlaceLemmas
+pub mod WorkLemmas

@@ -8,7 +8,8 @@ use Rattle.cs_match.specs.Lines.{lines}
 use Rattle.cs_lines.specs.Contexts.{Row, row_at, is_open, one_less}
 use Rattle.cs_lines.specs.Findings.{Finding}
 use Rattle.cs_lines.specs.Scans.{last_rows, scan_rows}
-use Rattle.cs_lines.specs.Shown.{at_most, text_rows, count_of, is_wanted}
+use Rattle.cs_lines.specs.Printed.{marked_of}
+use Rattle.cs_lines.specs.Shown.{at_most, line_rows, text_rows, count_of, is_wanted}
 use Rattle.cs_lines.specs.declared.form.ShowOptions.{ShowOptions}
 use Rattle.cs_lines.proofs.ScanLemmas.{scan_at, rows_are_scanned}
 use Rattle.cs_lines.proofs.TextLemmas.{has_rows}
@@ -63,8 +64,11 @@ module _ (before after : ℕ) (test : List ℕ → Bool) where
       ∙ ap (λ n. nat_lt 0 (at_most most n)) (sym (sum_by-cons (λ line. cond (test line) 1 0) line lines))
 
 module _ (options : ShowOptions) (finding : Finding) where
-  pub rows_if_marked : (text : List ℕ) → has_rows (text_rows options finding text) ≡ nat_lt 0 (count_of options finding text)
-  rows_if_marked text =
+  pub lines_if_marked : (lines : List (List ℕ)) → has_rows (line_rows options finding lines) ≡ nat_lt 0 (marked_of options finding lines)
+  lines_if_marked lines =
       let wanted = is_wanted options finding.has_match in
-      ap has_rows (rows_are_scanned options.before options.after wanted options.most (lines text))
-      ∙ some_shown options.before options.after wanted (lines text) options.most 1 []
+      ap has_rows (rows_are_scanned options.before options.after wanted options.most lines)
+      ∙ some_shown options.before options.after wanted lines options.most 1 []
+
+  pub rows_if_marked : (text : List ℕ) → has_rows (text_rows options finding text) ≡ nat_lt 0 (count_of options finding text)
+  rows_if_marked text = lines_if_marked (lines text)

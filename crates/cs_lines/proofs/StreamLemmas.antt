@@ -1,43 +1,31 @@
 -- Lines that are read block by block.
-use Rattle.std.proofs.Common.{◌≡◌, ℕ, zero, suc, ◌+◌, ◌-◌, ◌≤◌, ◌⊎◌, inl, inr, Bool, true, false, ◌&&◌, cond, List, [], ◌∷◌, ◌++◌, length, take, drop, Option, None, Some, refl, sym, ap, subst, ◌∙◌, arith, append_assoc, append-nil, length-append, length-drop}
-use Rattle.std.specs.Prelude.{IfSome, IsSomeAnd}
-use Rattle.std.proofs.lemmas.List.{take-append-drop, drop_at, drop-drop, drop-take, take_at, length-take-le, take_rest, nil_from_length, drop-append-le}
-use Rattle.cs_match.specs.LastPart.{last_line, last_part}
+use Rattle.std.proofs.Common.{◌≡◌, ℕ, zero, suc, ◌+◌, ◌-◌, ◌≤◌, ◌⊎◌, inl, inr, Bool, true, false, ◌&&◌, cond, List, [], ◌∷◌, ◌++◌, length, take, drop, Option, nat_lt, refl, sym, ap, subst, ◌∙◌, arith, append_assoc, append-nil, length-append, length-drop}
+use Rattle.std.proofs.lemmas.List.{drop_at, drop-drop, take_at, take_rest, drop-append-le}
+use Rattle.cs_match.specs.LastPart.{last_part}
 use Rattle.cs_match.specs.Lines.{lines, terminated_lines}
 use Rattle.cs_match.specs.NoNewline.{HasNoNewline}
 use Rattle.cs_match.specs.Skipping.{AreWholeLines}
-use Rattle.cs_match.proofs.LinesLemmas.{lines-split, terminated_lines-append, last_part-append, lines-none, lines-last}
-use Rattle.cs_match.proofs.WholeLineLemmas.{whole_is_terminated, whole_drop}
+use Rattle.cs_lines.specs.Contexts.{Row, row_at, is_open, one_less}
+use Rattle.cs_lines.specs.Findings.{Finding, IsFoundBy, has_stopped}
+use Rattle.cs_lines.specs.Printed.{LinesBegun, LinesPrinted, lines_bytes, marked_of}
+use Rattle.cs_tree.specs.SinkOutputs.{Begins}
+use Rattle.cs_lines.specs.Scans.{Fits, PrintsAlike, last_rows, rows_at, rows_by, scan_rows}
+use Rattle.cs_lines.specs.Shown.{gap, is_wanted, line_rows, shown_bytes}
+use Rattle.cs_lines.specs.Spacing.{Progress, fresh_rows, opening_of, printed_by, progress_of, seen, spaced}
+use Rattle.cs_lines.specs.Streamed.{ended_of, read_lines}
 use Rattle.cs_tree.specs.StreamModels.{SourceModel, ends}
 use Rattle.cs_tree.specs.Transfers.{Consumes, IsAt}
-use Rattle.cs_lines.specs.Contexts.{Row, row_at, is_open, one_less}
-use Rattle.cs_lines.specs.Findings.{Finding, IsFoundBy, KeepsSearch}
-use Rattle.cs_lines.specs.Printed.{PrintsLines, HasMark, page_groups}
-use Rattle.cs_lines.specs.Scans.{Fits, SearchesLast, last_rows, rows_at, rows_by, scan_rows}
-use Rattle.cs_lines.specs.Shown.{following, gap, line_gap, shown_bytes, text_rows}
-use Rattle.cs_lines.specs.Spacing.{Progress, fresh_rows, opening_of, printed_by, progress_of, spaced}
-use Rattle.cs_lines.specs.Streams.{BeginsLines, FindsMark, IsReady, StreamsRows, is_whole}
+use Rattle.cs_lines.specs.Streams.{BeginsLines, IfFound, IsReady, LinesStreamed, StreamsLines}
+use Rattle.cs_lines.specs.declared.stream.Ended.{Ended}
+use Rattle.cs_lines.specs.declared.stream.Ended.TheVariants.{Whole}
 use Rattle.cs_lines.specs.declared.rows.Page.{Page}
 use Rattle.cs_lines.specs.declared.rows.Rows.{Rows}
 use Rattle.cs_lines.specs.declared.search.LineSearch.{LineSearch}
-use Rattle.cs_lines.specs.declared.stream.Streamed.{Streamed}
-use Rattle.cs_lines.proofs.FindingLemmas.{found_same}
-use Rattle.cs_lines.proofs.MarkLemmas.{rows_if_marked}
-use Rattle.cs_lines.proofs.ScanLemmas.{scan_at, fits_none}
+use Rattle.cs_lines.proofs.MarkLemmas.{lines_if_marked}
+use Rattle.cs_lines.proofs.ReadLemmas.{both_some, lines_more, read_all, read_more, read_part, read_to, read_whole}
+use Rattle.cs_lines.proofs.ScanLemmas.{scan_at, fits_none, rows_are_scanned}
 use Rattle.cs_lines.proofs.SpacingLemmas.{printed_given}
-use Rattle.cs_lines.proofs.TextLemmas.{follows, shown_is, shown_true}
-
--- the lines of whole lines and of what follows them
-pub lines_append : (a b : List ℕ) → AreWholeLines a → lines (a ++ b) ≡ terminated_lines a ++ lines b
-lines_append a b whole =
-    let none = (whole_is_terminated a).0 whole in
-    lines-split (a ++ b)
-    ∙ ap (λ (ls : List (List ℕ)). ls ++ last_line (last_part (a ++ b)))
-    (terminated_lines-append a b ∙ ap (λ (part : List ℕ). terminated_lines a ++ terminated_lines (part ++ b)) none)
-    ∙ ap (λ (part : List ℕ). (terminated_lines a ++ terminated_lines b) ++ last_line part)
-    (last_part-append a b ∙ ap (λ (part : List ℕ). last_part (part ++ b)) none)
-    ∙ append_assoc (terminated_lines a) (terminated_lines b) (last_line (last_part b))
-    ∙ ap (λ (ls : List (List ℕ)). terminated_lines a ++ ls) (sym (lines-split b))
+use Rattle.cs_lines.proofs.TextLemmas.{follows, shown_is}
 
 module _ (before after : ℕ) (is_wanted : List ℕ → Bool) where
   abbrev scanned : ℕ → Option ℕ → List (List ℕ) → List (List ℕ) → List Row
@@ -90,64 +78,7 @@ pub fits_drop : (xs ys : List (List ℕ)) (left : ℕ) → Fits (xs ++ ys) left 
 fits_drop [] ys left fits = fits
 fits_drop (x ∷ xs) ys left fits = subst (Fits ys) (sym fits) (fits_none ys)
 
--- the bytes from one offset to another, without the first of them
-pub rest_of_slice : (text : List ℕ) (held more end : ℕ) → held + more ≤ end →
-    drop more (take (end - held) (drop held text)) ≡ take (end - (held + more)) (drop (held + more) text)
-rest_of_slice text held more end low =
-    let split : end - held ≡ more + (end - (held + more)) = omega arith in
-    ap (λ n. drop more (take n (drop held text))) split
-    ∙ drop-take more (end - (held + more)) (drop held text)
-    ∙ ap (take (end - (held + more))) (drop-drop more held text)
-
--- lines that have ended, and what follows them
-pub lines_after : (text more : List ℕ) (from end : ℕ) → from ≤ end → end ≤ length text → AreWholeLines (take end text) →
-    lines (drop from text ++ more) ≡ terminated_lines (drop from (take end text)) ++ lines (drop end text ++ more)
-lines_after text more from end low high whole =
-    let block = take end text in
-    let size : length block ≡ end = length-take-le end text high in
-    let split : drop from text ≡ drop from block ++ drop end text =
-    ap (drop from) (sym (take-append-drop end text)) ∙ drop-append-le from block (drop end text) (omega (arith, size)) in
-    ap (λ (r : List ℕ). lines (r ++ more)) split
-    ∙ ap lines (append_assoc (drop from block) (drop end text) more)
-    ∙ lines_append (drop from block) (drop end text ++ more) (whole_drop from block whole)
-
--- ---- bytes that are read
-
--- what holds of all bytes of a source, and of those that are left
-abbrev pub Carries : Option SourceModel → Option SourceModel → (List ℕ → List ℕ → Type 0) → Type 0
-Carries model now P = IfSome model (λ source. IsSomeAnd now (λ rest. P source.bytes rest.bytes))
-
-pub carries_here : (model : Option SourceModel) (P : List ℕ → List ℕ → Type 0) → ((bytes : List ℕ) → P bytes bytes) → Carries model model P
-carries_here None P h = tt
-carries_here (Some source) P h = h source.bytes
-
--- after some bytes were read
-pub carries_on : (model now later : Option SourceModel) (bytes : List ℕ) (P Q : List ℕ → List ℕ → Type 0) → Consumes now later bytes →
-    ((all rest : List ℕ) → P all (bytes ++ rest) → Q all rest) → Carries model now P → Carries model later Q
-carries_on None now later bytes P Q read f h = tt
-carries_on (Some source) None later bytes P Q read f h = absurd h
-carries_on (Some source) (Some was) None bytes P Q read f h = absurd read
-carries_on (Some source) (Some was) (Some rest) bytes P Q read f h = f source.bytes rest.bytes (subst (P source.bytes) read.0 h)
-
--- at the end
-pub carries_end : (model now : Option SourceModel) (P : List ℕ → List ℕ → Type 0) (Q : List ℕ → Type 0) → IsAt ends now →
-    ((all : List ℕ) → P all [] → Q all) → Carries model now P → IfSome model (λ source. Q source.bytes)
-carries_end None now P Q end f h = tt
-carries_end (Some source) None P Q end f h = absurd h
-carries_end (Some source) (Some rest) P Q end f h = f source.bytes (subst (P source.bytes) end.0 h)
-
--- whatever is left
-pub carries_any : (model now : Option SourceModel) (P : List ℕ → List ℕ → Type 0) (Q : List ℕ → Type 0) →
-    ((all rest : List ℕ) → P all rest → Q all) → Carries model now P → IfSome model (λ source. Q source.bytes)
-carries_any None now P Q f h = tt
-carries_any (Some source) None P Q f h = absurd h
-carries_any (Some source) (Some rest) P Q f h = f source.bytes rest.bytes h
-
-pub if_any : (model : Option SourceModel) (Q : List ℕ → Type 0) → ((all : List ℕ) → Q all) → IfSome model (λ source. Q source.bytes)
-if_any None Q h = tt
-if_any (Some source) Q h = h source.bytes
-
--- ---- a window to which bytes are added
+-- ---- a buffer to which bytes are added
 
 module _ (text bytes new : List ℕ) (from : ℕ) (within : from ≤ length text) (is : new ≡ text ++ bytes) where
   pub first_same : take from new ≡ take from text
@@ -160,14 +91,6 @@ module _ (text bytes new : List ℕ) (from : ℕ) (within : from ≤ length text
 
   pub rest_more : drop from new ≡ drop from text ++ bytes
   rest_more = ap (drop from) is ∙ drop-append-le from text bytes within
-
-  -- the held lines, and the lines after them
-  pub lines_on : {A : Type 0} (W : List (List ℕ) → List (List ℕ) → A) (rest : List ℕ) →
-      W (terminated_lines (take from text)) (lines (drop from text ++ (bytes ++ rest)))
-      ≡ W (terminated_lines (take from new)) (lines (drop from new ++ rest))
-  lines_on W rest =
-      ap (λ (r : List ℕ). W (terminated_lines (take from text)) (lines r)) (sym (append_assoc (drop from text) bytes rest) ∙ ap (λ (r : List ℕ). r ++ rest) (sym rest_more))
-      ∙ ap (λ (h : List ℕ). W (terminated_lines h) (lines (drop from new ++ rest))) (sym first_same)
 
   pub ready_more : (rows : Rows) → IsReady rows text from (length text) → IsReady rows new from (length text)
   ready_more rows ready =
@@ -185,114 +108,115 @@ module _ (text bytes new : List ℕ) (from : ℕ) (within : from ≤ length text
           take_at (drop from text) bytes (length text - from) (length-drop from text)
           ∙ sym (take_rest text from)
 
--- the lines of bytes without a newline
-pub lines_part : (part : List ℕ) → HasNoNewline part → lines part ≡ last_line part
-lines_part [] none = lines-none
-lines_part (b ∷ part) none = lines-last b part none
+-- ---- lines that are printed
 
--- ---- a text that is printed
+module _ (page : Page) (given : List ℕ) (finding : Finding) (lines : List (List ℕ)) where
+  -- what is printed of the lines, row by row
+  abbrev pub all_printed : Progress
+  all_printed = printed_by page finding (progress_of (fresh_rows page) given) (rows_by (fresh_rows page) finding [] lines)
 
-module _ (search search' : LineSearch) (page : Page) (first given : List ℕ) where
-  abbrev all_printed : Finding → List ℕ → Progress
-  all_printed finding all =
-      printed_by page finding (progress_of (fresh_rows page) given) (text_rows page.options.now finding (first ++ all))
+  is_scanned : line_rows page.options.now finding lines ≡ rows_by (fresh_rows page) finding [] lines
+  is_scanned =
+      let options = page.options.now in rows_are_scanned options.before options.after (is_wanted options finding.has_match) options.most lines
 
-  -- what is still to be printed after what was printed
-  abbrev pub StillPrints : Rows → List ℕ → ℕ → List ℕ → List ℕ → List ℕ → Type 0
-  StillPrints rows given' from text all rest = search'.stopped ≡ false → (finding : Finding) → IsFoundBy finding search →
-      all_printed finding all
-      ≡ printed_by rows.page finding (progress_of rows given') (rows_by rows finding (terminated_lines (take from text)) (lines (drop from text ++ rest)))
-
-  abbrev pub IsAllPrinted : Rows → List ℕ → List ℕ → Type 0
-  IsAllPrinted rows given' all = search'.stopped ≡ false → (finding : Finding) → IsFoundBy finding search →
-      progress_of rows given' ≡ all_printed finding all
-
-  all_given : (finding : Finding) (all : List ℕ) → (all_printed finding all).given
-      ≡ given ++ following (line_gap page.options.now) page.begun (page_groups page finding (first ++ all))
-  all_given finding all =
+  all_given : all_printed.given ≡ given ++ lines_bytes page finding lines
+  all_given =
       let options = page.options.now in
-      let rows = text_rows options finding (first ++ all) in
-      printed_given (opening_of page) (gap options) (shown_bytes options finding page.name.now) rows (progress_of (fresh_rows page) given)
+      let rows = line_rows options finding lines in
+      let start = progress_of (fresh_rows page) given in
+      ap (λ (rs : List Row). (printed_by page finding start rs).given) (sym is_scanned)
+      ∙ printed_given (opening_of page) (gap options) (shown_bytes options finding page.name.now) rows start
       ∙ ap (λ r. given ++ r) (sym (follows options finding page.name.now rows page.begun))
 
-  pub whole_lines : (rows : Rows) (given' all : List ℕ) → IsAllPrinted rows given' all →
-      PrintsLines search search' page (first ++ all) given given' × HasMark search search' page (first ++ all) rows.shown
-  whole_lines rows given' all h =
-      let options = page.options.now in (
-        λ none finding found. ap (λ p. p.given) (h none finding found) ∙ all_given finding all,
-        λ none finding found. ap (λ p. p.shown) (h none finding found)
-            ∙ shown_is options finding page.name.now (opening_of page) (gap options) (text_rows options finding (first ++ all))
-            (progress_of (fresh_rows page) given) refl
-            ∙ rows_if_marked options finding (first ++ all),
-      )
-
-  pub begun_lines : (rows : Rows) (given' : List ℕ) (from : ℕ) (text all rest : List ℕ) → StillPrints rows given' from text all rest →
-      BeginsLines search search' page (first ++ all) given given'
-  begun_lines rows given' from text all rest h none finding found =
-      let options = rows.page.options.now in
-      let later = rows_by rows finding (terminated_lines (take from text)) (lines (drop from text ++ rest)) in (
-        spaced (opening_of rows.page) (gap options) (shown_bytes options finding rows.page.name.now) rows.shown rows.next later,
-        sym (all_given finding all) ∙ ap (λ p. p.given) (h none finding found)
-            ∙ printed_given (opening_of rows.page) (gap options) (shown_bytes options finding rows.page.name.now) later (progress_of rows given'),
-      )
-
-  -- a row was shown
-  pub begun_found : (rows : Rows) (given' : List ℕ) (from : ℕ) (text all rest : List ℕ) → StillPrints rows given' from text all rest →
-      FindsMark search search' page (first ++ all) rows.shown
-  begun_found rows given' from text all rest h none finding found marks =
+  all_shown : all_printed.shown ≡ nat_lt 0 (marked_of page.options.now finding lines)
+  all_shown =
       let options = page.options.now in
-      let now = rows.page.options.now in
-      let later = rows_by rows finding (terminated_lines (take from text)) (lines (drop from text ++ rest)) in
-      sym (rows_if_marked options finding (first ++ all))
-      ∙ sym (shown_is options finding page.name.now (opening_of page) (gap options) (text_rows options finding (first ++ all))
-      (progress_of (fresh_rows page) given) refl)
-      ∙ ap (λ p. p.shown) (h none finding found)
-      ∙ shown_true now finding rows.page.name.now (opening_of rows.page) (gap now) later (progress_of rows given') marks
+      let start = progress_of (fresh_rows page) given in
+      ap (λ (rs : List Row). (printed_by page finding start rs).shown) (sym is_scanned)
+      ∙ shown_is options finding page.name.now (opening_of page) (gap options) (line_rows options finding lines) start refl
+      ∙ lines_if_marked options finding lines
 
-  pub all_begun : (rows : Rows) (given' all : List ℕ) → IsAllPrinted rows given' all → BeginsLines search search' page (first ++ all) given given'
-  all_begun rows given' all h none finding found =
-      ([], sym (all_given finding all) ∙ sym (ap (λ p. p.given) (h none finding found)) ∙ sym (append-nil given'))
+  -- all was printed
+  pub lines_printed : (later : List ℕ) (marked : Bool) → seen all_printed ≡ (later, marked) → LinesPrinted page finding lines given later marked
+  lines_printed later marked is =
+      (sym (ap (λ (s : List ℕ × Bool). s.0) is) ∙ all_given, sym (ap (λ (s : List ℕ × Bool). s.1) is) ∙ all_shown)
 
--- what is said of a streamed text
-abbrev pub Streams : LineSearch → LineSearch → Page → List ℕ → List ℕ → List ℕ → Streamed → List ℕ → Type 0
-Streams search search' page first given later streamed all =
-    (is_whole streamed.ended ≡ true → PrintsLines search search' page (first ++ all) given later
-    × HasMark search search' page (first ++ all) streamed.marked)
-    × BeginsLines search search' page (first ++ all) given later
-    × FindsMark search search' page (first ++ all) streamed.marked
+  -- a beginning of it was
+  pub lines_begun : (later : List ℕ) → Begins later all_printed.given → LinesBegun page finding lines given later
+  lines_begun later begins = (begins.0, sym all_given ∙ begins.1)
 
-pub has_found : (search search' : LineSearch) (page : Page) (text : List ℕ) (marked : Bool) → HasMark search search' page text marked →
-    FindsMark search search' page text marked
-has_found search search' page text marked has none finding found marks = sym (has none finding found) ∙ marks
+-- what is printed in the end is the same after these rows
+module _ (page : Page) (given : List ℕ) (rows : Rows) (later : List ℕ) (finding : Finding) (lines held more : List (List ℕ))
+    (alike : PrintsAlike (fresh_rows page) rows given later finding [] lines held more) where
+  -- so what was printed begins it
+  pub alike_begun : Begins later (all_printed page given finding lines).given
+  alike_begun =
+      let options = rows.page.options.now in
+      let rest = rows_by rows finding held more in (
+        spaced (opening_of rows.page) (gap options) (shown_bytes options finding rows.page.name.now) rows.shown rows.next rest,
+        ap (λ (s : List ℕ × Bool). s.0) alike
+            ∙ printed_given (opening_of rows.page) (gap options) (shown_bytes options finding rows.page.name.now) rest (progress_of rows later),
+      )
 
--- ---- a block after another
+  -- and a beginning of what is printed after it begins all
+  pub begun_more : (bytes : List ℕ) → Begins bytes (printed_by rows.page finding (progress_of rows later) (rows_by rows finding held more)).given →
+      Begins bytes (all_printed page given finding lines).given
+  begun_more bytes b = (b.0, ap (λ (s : List ℕ × Bool). s.0) alike ∙ b.1)
 
-module _ (first' : List ℕ) (page : Page) (given : List ℕ) (search0 search1 search2 : LineSearch) (kept : KeepsSearch search0 search1) (keeps : KeepsSearch search1 search2) where
-  pub still_searched : (rows1 rows2 : Rows) (given1 given2 : List ℕ) (from1 from2 : ℕ) (text1 text2 : List ℕ) →
-      StreamsRows search1 search2 rows1 rows2 given1 given2 from1 text1 text2 from2 → (all rest : List ℕ) →
-      StillPrints search0 search1 page first' given rows1 given1 from1 text1 all rest → StillPrints search0 search2 page first' given rows2 given2 from2 text2 all rest
-  still_searched rows1 rows2 given1 given2 from1 from2 text1 text2 rows all rest still whole finding found =
-      still (keeps.3 whole) finding found ∙ rows whole finding rest (found_same search0 search1 kept finding found)
+-- ---- a text that was read in part
 
-  pub all_searched : (rows1 rows2 : Rows) (given1 given2 : List ℕ) (from : ℕ) (text deref : List ℕ) → HasNoNewline (drop from text) → deref ≡ text →
-      SearchesLast search1 search2 rows1 rows2 given1 given2 (terminated_lines (take from deref)) (last_line (drop from deref)) → (all : List ℕ) →
-      StillPrints search0 search1 page first' given rows1 given1 from text all [] → IsAllPrinted search0 search2 page first' given rows2 given2 all
-  all_searched rows1 rows2 given1 given2 from text deref part same rows all still whole finding found =
-      let W : List (List ℕ) → Progress = λ ls. printed_by rows1.page finding (progress_of rows1 given1) (rows_by rows1 finding (terminated_lines (take from text)) ls) in
-      rows whole finding (found_same search0 search1 kept finding found)
-      ∙ ap (λ (x : List ℕ). printed_by rows1.page finding (progress_of rows1 given1) (rows_by rows1 finding (terminated_lines (take from x)) (last_line (drop from x)))) same
-      ∙ ap W (sym (lines_part (drop from text) part))
-      ∙ ap (λ (rest : List ℕ). W (lines rest)) (sym (append-nil (drop from text)))
-      ∙ sym (still (keeps.3 whole) finding found)
+-- What was printed begins what is printed of these lines, whatever lines follow them.
+abbrev pub BeginsAny : Page → List ℕ → Finding → List (List ℕ) → List ℕ → Type 0
+BeginsAny page given finding lines later = (more : List (List ℕ)) → Begins later (all_printed page given finding (lines ++ more)).given
 
-pub still_more : (search search' : LineSearch) (page : Page) (first' given : List ℕ) (rows : Rows) (given' : List ℕ) (from : ℕ) (text bytes new : List ℕ) →
-    from ≤ length text → new ≡ text ++ bytes → (all rest : List ℕ) →
-    StillPrints search search' page first' given rows given' from text all (bytes ++ rest) → StillPrints search search' page first' given rows given' from new all rest
-still_more search search' page first' given rows given' from text bytes new within is all rest still whole finding found =
-    still whole finding found
-    ∙ lines_on text bytes new from within is (λ held ls. printed_by rows.page finding (progress_of rows given') (rows_by rows finding held ls)) rest
+module _ (search search' : LineSearch) (page : Page) (left : ℕ) (model now : Option SourceModel) (first read given later : List ℕ)
+    (consumed : Consumes model now read) (low : length read ≤ left) where
+  abbrev ReadBegun : SourceModel → Type 0
+  ReadBegun source = IfFound search search' (λ finding. LinesBegun page finding (read_lines (ended_of left source) (first ++ take left source.bytes)) given later)
 
--- the bytes that follow a window that a read left as it was
-pub same_window : (text bytes new : List ℕ) (count : ℕ) → new ≡ text ++ bytes → length bytes ≡ count → count ≡ 0 → new ≡ text
-same_window text bytes new count is size none =
-    is ∙ ap (λ (b : List ℕ). text ++ b) (nil_from_length bytes (size ∙ none)) ∙ append-nil text
+  abbrev WholeBegun : SourceModel → Type 0
+  WholeBegun source = IfFound search search' (λ finding. LinesBegun page finding (lines (first ++ source.bytes)) given later)
+
+  -- so it begins what is printed for the text, however it goes on
+  pub begun_all : (has_stopped search' ≡ false → (finding : Finding) → IsFoundBy finding search →
+      BeginsAny page given finding (terminated_lines (first ++ read)) later) → BeginsLines search search' page left model first given later
+  begun_all begins =
+      both_some {P = ReadBegun} {Q = WholeBegun} model (λ source a b none finding found. (a none finding found, b none finding found))
+      (read_part left model now read (λ text ended. IfFound search search' (λ finding. LinesBegun page finding (read_lines ended (first ++ text)) given later))
+      consumed low (λ more ended none finding found. read_begun finding more ended (begins none finding found)))
+      (read_whole model now read (λ whole. IfFound search search' (λ finding. LinesBegun page finding (lines (first ++ whole)) given later)) consumed
+      (λ more none finding found. whole_begun finding more (begins none finding found)))
+    where
+      read_begun : (finding : Finding) (more : List ℕ) (ended : Ended) → BeginsAny page given finding (terminated_lines (first ++ read)) later →
+          LinesBegun page finding (read_lines ended (first ++ (read ++ more))) given later
+      read_begun finding more ended begins =
+          let rest = read_more ended (first ++ read) more in
+          let is = ap (read_lines ended) (sym (append_assoc first read more)) ∙ rest.1 in
+          lines_begun page given finding (read_lines ended (first ++ (read ++ more))) later
+          (subst (λ (ls : List (List ℕ)). Begins later (all_printed page given finding ls).given) (sym is) (begins rest.0))
+
+      whole_begun : (finding : Finding) (more : List ℕ) → BeginsAny page given finding (terminated_lines (first ++ read)) later →
+          LinesBegun page finding (lines (first ++ (read ++ more))) given later
+      whole_begun finding more begins =
+          let is = ap lines (sym (append_assoc first read more)) ∙ lines_more (first ++ read) more in
+          lines_begun page given finding (lines (first ++ (read ++ more))) later
+          (subst (λ (ls : List (List ℕ)). Begins later (all_printed page given finding ls).given) (sym is) (begins (lines (last_part (first ++ read) ++ more))))
+
+-- and at its end it is what is printed for it
+module _ (search search' : LineSearch) (page : Page) (left : ℕ) (model later' : Option SourceModel) (first read given later : List ℕ) (marked : Bool)
+    (consumed : Consumes model later' read) (end : IsAt ends later') (low : length read ≤ left)
+    (printed : IfFound search search' (λ finding. LinesPrinted page finding (lines (first ++ read)) given later marked)) where
+  pub lines_streamed : StreamsLines search search' page left model first given later (record { marked = marked; ended = Whole })
+  lines_streamed = read_to ends left model later' read
+      (λ text ended. IfFound search search' (λ finding. LinesStreamed page finding ended (first ++ text) given later (record { marked = marked; ended = Whole })))
+      consumed end low (λ none finding found. (refl, printed none finding found))
+
+  pub lines_cut : BeginsLines search search' page left model first given later
+  lines_cut =
+      both_some {P = ReadBegun search search' page left model later' first read given later consumed low} {Q = WholeBegun search search' page left model later' first read given later consumed low} model (λ source a b none finding found. (a none finding found, b none finding found))
+      (read_to ends left model later' read (λ text ended. IfFound search search' (λ finding. LinesBegun page finding (read_lines ended (first ++ text)) given later))
+      consumed end low begun)
+      (read_all ends model later' read (λ whole. IfFound search search' (λ finding. LinesBegun page finding (lines (first ++ whole)) given later)) consumed end begun)
+    where
+      begun : IfFound search search' (λ finding. LinesBegun page finding (lines (first ++ read)) given later)
+      begun none finding found = ([], sym (printed none finding found).0 ∙ sym (append-nil later))

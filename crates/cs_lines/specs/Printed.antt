@@ -1,46 +1,44 @@
 -- The effect of printing a text on an output. It is said of each finding of the search, unless a line has used up its budget.
-use Rattle.std.specs.Prelude.{ℕ, ◌≡◌, Bool, true, false, nat_lt, List, ◌++◌}
+use Rattle.std.specs.Prelude.{ℕ, ◌≡◌, Bool, false, nat_lt, List, ◌++◌}
 use Rattle.cs_lines.specs.declared.search.LineSearch.{LineSearch}
-use Rattle.cs_lines.specs.Findings.{Finding, IsFoundBy}
-use Rattle.cs_lines.specs.Shown.{following, line_gap, line_groups, text_rows, between, text_groups, count_of, total_groups}
+use Rattle.cs_lines.specs.Findings.{Finding, IsFoundBy, has_stopped}
+use Rattle.cs_tree.specs.SinkOutputs.{Begins}
+use Rattle.cs_lines.specs.Project.{ItemShown, shown_as}
+use Rattle.cs_lines.specs.Shown.{at_most, following, line_gap, line_groups, line_rows, wanted_of, between}
 use Rattle.cs_lines.specs.declared.binary.BinaryFiles.{BinaryFiles}
-use Rattle.cs_lines.specs.declared.binary.BinaryFiles.TheVariants.{WithoutMatch, Binary, Text}
+use Rattle.cs_lines.specs.declared.form.ShowOptions.{ShowOptions}
 use Rattle.cs_lines.specs.declared.rows.Page.{Page}
 
--- the groups of lines of a text
-abbrev pub page_groups : Page → Finding → List ℕ → List (List ℕ)
-page_groups page finding text =
-    line_groups page.options.now finding page.name.now (text_rows page.options.now finding text)
+-- how many of these lines are marked
+abbrev pub marked_of : ShowOptions → Finding → List (List ℕ) → ℕ
+marked_of options finding lines = at_most options.most (wanted_of options finding lines)
 
--- The lines of the text were printed.
-abbrev pub PrintsLines : LineSearch → LineSearch → Page → List ℕ → List ℕ → List ℕ → Type 0
-PrintsLines search search' page text given later = search'.stopped ≡ false → (finding : Finding) → IsFoundBy finding search →
-    later ≡ given ++ following (line_gap page.options.now) page.begun (page_groups page finding text)
+-- what is printed of these lines
+abbrev pub lines_bytes : Page → Finding → List (List ℕ) → List ℕ
+lines_bytes page finding lines = following (line_gap page.options.now) page.begun
+    (line_groups page.options.now finding page.name.now (line_rows page.options.now finding lines))
 
--- These groups were printed.
-abbrev pub PrintsGroups : LineSearch → LineSearch → Page → (Finding → List (List ℕ)) → List ℕ → List ℕ → Type 0
-PrintsGroups search search' page groups given later = search'.stopped ≡ false → (finding : Finding) → IsFoundBy finding search →
-    later ≡ given ++ following (between page.options.now) page.begun (groups finding)
+-- The lines were printed, and this says whether one is marked.
+abbrev pub LinesPrinted : Page → Finding → List (List ℕ) → List ℕ → List ℕ → Bool → Type 0
+LinesPrinted page finding lines given later marked =
+    (later ≡ given ++ lines_bytes page finding lines) × (marked ≡ nat_lt 0 (marked_of page.options.now finding lines))
 
--- The text was printed.
-abbrev pub PrintsText : LineSearch → LineSearch → Page → List ℕ → List ℕ → List ℕ → Type 0
-PrintsText search search' page text given later =
-    PrintsGroups search search' page (λ finding. text_groups page.options.now finding page.name.now text) given later
+-- what was printed begins what is printed of the lines
+abbrev pub LinesBegun : Page → Finding → List (List ℕ) → List ℕ → List ℕ → Type 0
+LinesBegun page finding lines given later = Begins later (given ++ lines_bytes page finding lines)
 
--- The text was printed without its lines: how many are marked, or that one is.
-abbrev pub PrintsTotal : LineSearch → LineSearch → Page → List ℕ → List ℕ → List ℕ → Type 0
-PrintsTotal search search' page text given later = PrintsGroups search search' page
-    (λ finding. total_groups page.options.now page.name.now page.options.now.mode (count_of page.options.now finding text)) given later
+-- ---- a text of a project
 
--- whether a line of the text is marked
-abbrev pub HasMark : LineSearch → LineSearch → Page → List ℕ → Bool → Type 0
-HasMark search search' page text marked = search'.stopped ≡ false → (finding : Finding) → IsFoundBy finding search →
-    marked ≡ nat_lt 0 (count_of page.options.now finding text)
+abbrev pub item_bytes : Page → ItemShown → List ℕ
+item_bytes page shown = following (between page.options.now) page.begun shown.groups
 
--- What was printed for a text, and whether a line is marked, by what it is searched as.
+-- What is printed for a text was printed, and this says whether a line is marked, by what it is searched as.
 abbrev pub PrintsItem : LineSearch → LineSearch → Page → BinaryFiles → List ℕ → List ℕ → List ℕ → Bool → Type 0
-PrintsItem search search' page WithoutMatch text given later marked = (later ≡ given) × (marked ≡ false)
-PrintsItem search search' page Binary text given later marked =
-    PrintsTotal search search' page text given later × HasMark search search' page text marked
-PrintsItem search search' page Text text given later marked =
-    PrintsText search search' page text given later × HasMark search search' page text marked
+PrintsItem search search' page kind text given later marked = has_stopped search' ≡ false → (finding : Finding) → IsFoundBy finding search →
+    let shown = shown_as page.options.now finding page.name.now kind text in
+    (later ≡ given ++ item_bytes page shown) × (marked ≡ shown.marked)
+
+-- what was printed begins what is printed for the text
+abbrev pub BeginsItem : LineSearch → LineSearch → Page → BinaryFiles → List ℕ → List ℕ → List ℕ → Type 0
+BeginsItem search search' page kind text given later = has_stopped search' ≡ false → (finding : Finding) → IsFoundBy finding search →
+    Begins later (given ++ item_bytes page (shown_as page.options.now finding page.name.now kind text))

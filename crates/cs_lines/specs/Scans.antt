@@ -1,14 +1,18 @@
 -- The rows of a text, line by line: the definition that the search of a text is proved from.
-use Rattle.std.specs.Prelude.{ℕ, ◌≡◌, ◌≤◌, ◌+◌, ◌-◌, Bool, true, false, ◌&&◌, nat_lt, if◌then◌else◌, List, [], ◌∷◌, ◌++◌, length, drop, take, slice_range, Option, MatchOption}
+use Rattle.std.specs.Prelude.{ℕ, ◌≡◌, ◌≤◌, ◌+◌, ◌-◌, Bool, true, false, ◌&&◌, nat_lt, if◌then◌else◌, List, [], ◌∷◌, ◌++◌, length, drop, take, slice_range, Option}
 use Rattle.cs_match.specs.Lines.{terminated_lines}
-use Rattle.cs_match.specs.Skipping.{AreWholeLines}
-use Rattle.cs_match.specs.declared.matcher.Line.{Line}
+use Rattle.cs_match.specs.Skipping.{AreWholeLines, IsLineAfter}
+use Rattle.cs_match.specs.Skipped.{AreLinesBetween}
 use Rattle.cs_lines.specs.declared.search.LineSearch.{LineSearch}
 use Rattle.cs_lines.specs.Contexts.{Row, row_at, is_open, one_less}
-use Rattle.cs_lines.specs.Findings.{Finding, IsFoundBy}
+use Rattle.cs_lines.specs.Findings.{Finding, IsFoundBy, Tests, has_stopped}
+use Rattle.cs_lines.specs.Forms.{Span}
+use Rattle.cs_tree.specs.SinkOutputs.{Begins}
+use Rattle.cs_lines.specs.Printing.{needs_spans}
 use Rattle.cs_lines.specs.Shown.{is_wanted}
-use Rattle.cs_lines.specs.Spacing.{printed_by, progress_of}
+use Rattle.cs_lines.specs.Spacing.{printed_by, progress_of, seen}
 use Rattle.cs_lines.specs.declared.rows.Rows.{Rows}
+use Rattle.cs_lines.specs.declared.searching.Place.{Place}
 
 -- The number of the first line that is not shown yet, how many lines may still be marked, and how many of the next lines are
 -- shown since they are after a marked one.
@@ -54,11 +58,6 @@ NoneMarked is_wanted most (line ∷ lines) = ((is_wanted line && is_open most) �
 abbrev pub scan_of : Rows → Scan
 scan_of rows = record { number = rows.number; most = rows.most; left = rows.left }
 
--- after a marked line
-abbrev pub scan_marked : Rows → List (List ℕ) → Scan
-scan_marked rows held =
-    record { number = rows.number + length held + 1; most = one_less rows.most; left = rows.page.options.now.after }
-
 -- the rows that are still to be shown of a text
 abbrev pub rows_by : Rows → Finding → List (List ℕ) → List (List ℕ) → List Row
 rows_by rows finding held lines =
@@ -76,23 +75,88 @@ pub record IsPassed (old new : Rows) (block : List ℕ) (held from held' : ℕ) 
   pub number : new.number ≡ old.number + length (take old.left (terminated_lines (drop from block)))
   pub room : new.number + held ≤ old.number + held'
 
--- the first line at or after an offset that is marked
-abbrev pub IsNextMark : Rows → (List ℕ → Bool) → List ℕ → ℕ → Option Line → Type 0
-IsNextMark rows has_match block from next = let wanted = is_wanted rows.page.options.now has_match in MatchOption next
-    (NoneMarked wanted rows.most (terminated_lines (drop from block)))
-    (λ line. ((wanted (slice_range block line.start line.end) && is_open rows.most) ≡ true)
-    × NoneMarked wanted rows.most (terminated_lines (slice_range block from line.start)))
+-- what is still to be printed, the same in two states
+abbrev pub PrintsAlike : Rows → Rows → List ℕ → List ℕ → Finding → List (List ℕ) → List (List ℕ) → List (List ℕ) → List (List ℕ) → Type 0
+PrintsAlike old new given given' finding held lines held' lines' =
+    seen (printed_by old.page finding (progress_of old given) (rows_by old finding held lines))
+    ≡ seen (printed_by new.page finding (progress_of new given') (rows_by new finding held' lines'))
+
+-- A marked line with these matches was shown, and the last of the lines that were held before it.
+abbrev pub IsMarkShown : Rows → Rows → List ℕ → List ℕ → List (List ℕ) → List ℕ → List Span → Type 0
+IsMarkShown old new given later held line spans = (new.page ≡ old.page) × ((finding : Finding) →
+    (needs_spans old.page.options.now.form ≡ true → finding.spans line ≡ spans) →
+    is_wanted old.page.options.now finding.has_match line ≡ true → (more : List (List ℕ)) →
+    PrintsAlike old new given later finding held (line ∷ more) [] more)
 
 -- Lines were searched, and `held'` are held now: what is to be printed of them and of any lines after them was printed, except
 -- what is to be printed now.
 abbrev pub Searches : LineSearch → LineSearch → Rows → Rows → List ℕ → List ℕ → List (List ℕ) → List (List ℕ) → List (List ℕ) → Type 0
 Searches search search' old new given given' held lines held' =
-    search'.stopped ≡ false → (finding : Finding) (later : List (List ℕ)) → IsFoundBy finding search →
-    printed_by old.page finding (progress_of old given) (rows_by old finding held (lines ++ later))
-    ≡ printed_by new.page finding (progress_of new given') (rows_by new finding held' later)
+    has_stopped search' ≡ false → (finding : Finding) (later : List (List ℕ)) → IsFoundBy finding search →
+    PrintsAlike old new given given' finding held (lines ++ later) held' later
+
+-- what was printed begins what is to be printed of these lines and of any lines after them
+abbrev pub BeginsRows : LineSearch → LineSearch → Rows → List ℕ → List ℕ → List (List ℕ) → List (List ℕ) → Type 0
+BeginsRows search search' old given later held lines =
+    has_stopped search' ≡ false → (finding : Finding) (more : List (List ℕ)) → IsFoundBy finding search →
+    Begins later (printed_by old.page finding (progress_of old given) (rows_by old finding held (lines ++ more))).given
 
 -- The last lines were searched: what is to be printed of them was printed.
 abbrev pub SearchesLast : LineSearch → LineSearch → Rows → Rows → List ℕ → List ℕ → List (List ℕ) → List (List ℕ) → Type 0
 SearchesLast search search' old new given given' held lines =
-    search'.stopped ≡ false → (finding : Finding) → IsFoundBy finding search →
-    progress_of new given' ≡ printed_by old.page finding (progress_of old given) (rows_by old finding held lines)
+    has_stopped search' ≡ false → (finding : Finding) → IsFoundBy finding search →
+    seen (printed_by old.page finding (progress_of old given) (rows_by old finding held lines)) ≡ seen (progress_of new given')
+
+-- ---- the search of a block
+
+-- the lines that are held at a place, and those that were not passed
+abbrev pub held_at : Place → List (List ℕ)
+held_at place = terminated_lines (slice_range place.block.now place.held place.at)
+
+abbrev pub lines_at : Place → List (List ℕ)
+lines_at place = terminated_lines (drop place.at place.block.now)
+
+-- The lines of a block up to an offset were searched: those that were not passed are not marked.
+pub record IsPlaced (search : LineSearch) (rows : Rows) (place : Place) (offset : ℕ) : Type 0 where
+  pub order : place.held ≤ place.at
+  pub whole : AreWholeLines (drop place.held place.block.now)
+  pub between : AreWholeLines (slice_range place.block.now place.held place.at)
+  pub lines : AreLinesBetween place.block.now place.at offset
+  pub fits : Fits (held_at place) rows.left
+  pub unmarked : (test : List ℕ → Bool) → Tests test search →
+      NoneMarked (is_wanted rows.page.options.now test) rows.most (terminated_lines (slice_range place.block.now place.at offset))
+
+-- A line of the block from a place on: the lines between are whole.
+pub record IsNextLine (rows : Rows) (place : Place) (start end : ℕ) : Type 0 where
+  pub order : place.held ≤ place.at
+  pub whole : AreWholeLines (drop place.held place.block.now)
+  pub between : AreWholeLines (slice_range place.block.now place.held place.at)
+  pub fits : Fits (held_at place) rows.left
+  pub line : IsLineAfter place.block.now place.at start end
+
+-- It was shown as a marked line with these matches, and the lines around it: if it is wanted and no line before it is marked,
+-- what is to be printed of the block and of any lines after it is the same.
+pub record MarksLine (old new : Rows) (given given' : List ℕ) (place place' : Place) (start end : ℕ) (spans : List Span) : Type 0 where
+  pub block : place'.block ≡ place.block
+  pub held : place'.held ≡ end + 1
+  pub at : place'.at ≡ end + 1
+  pub page : new.page ≡ old.page
+  pub room : new.number + place.held ≤ old.number + (end + 1)
+  pub rows : (finding : Finding) → let wanted = is_wanted old.page.options.now finding.has_match in
+      let line = slice_range place.block.now start end in
+      (needs_spans old.page.options.now.form ≡ true → finding.spans line ≡ spans) → wanted line ≡ true →
+      NoneMarked wanted old.most (terminated_lines (slice_range place.block.now place.at start)) → (later : List (List ℕ)) →
+      PrintsAlike old new given given' finding (held_at place) (lines_at place ++ later) [] (terminated_lines (drop (end + 1) place.block.now) ++ later)
+
+-- They are searched up to another offset now: what is to be printed of the block and of any lines after it is the same.
+pub record Marks (search search' : LineSearch) (old new : Rows) (given given' : List ℕ) (place place' : Place) (offset : ℕ) : Type 0 where
+  pub placed : IsPlaced search' new place' offset
+  pub block : place'.block ≡ place.block
+  pub page : new.page ≡ old.page
+  pub room : new.number + place.held ≤ old.number + place'.held
+  pub rises : place.held ≤ place'.held
+  pub rows : has_stopped search' ≡ false → (finding : Finding) (later : List (List ℕ)) → IsFoundBy finding search →
+      PrintsAlike old new given given' finding (held_at place) (lines_at place ++ later) (held_at place') (lines_at place' ++ later)
+
+abbrev pub BeginsMarks : LineSearch → LineSearch → Rows → List ℕ → List ℕ → Place → Type 0
+BeginsMarks search search' old given later place = BeginsRows search search' old given later (held_at place) (lines_at place)

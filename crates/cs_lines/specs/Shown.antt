@@ -50,8 +50,13 @@ module _ (options : ShowOptions) (name : List ℕ) where
   abbrev pub name_bytes : List ℕ → List ℕ
   name_bytes end = dyed options.form (codes "35") name ++ (if options.form.nul then 0 ∷ [] else end)
 
+  -- what is before a count: nothing with -h; as Go's csearch has it, the name, a colon and a space
+  abbrev pub counted_bytes : List ℕ
+  counted_bytes =
+      if options.form.spaced then name_bytes (codes ": ") else (if options.form.bare then [] else name_bytes (codes ":"))
+
   abbrev pub count_bytes : ℕ → List ℕ
-  count_bytes count = (if options.form.bare then [] else name_bytes (codes ":")) ++ (decimal count ++ newline ∷ [])
+  count_bytes count = counted_bytes ++ (decimal count ++ newline ∷ [])
 
   -- the name above the lines of a text
   abbrev pub heading : List ℕ
@@ -77,13 +82,19 @@ module _ (options : ShowOptions) (name : List ℕ) where
   total_groups Others count = name_groups (not (nat_lt 0 count))
 
 module _ (options : ShowOptions) (finding : Finding) where
-  -- the lines that are shown
-  abbrev pub text_rows : List ℕ → List Row
-  text_rows text = rows_of options.most options.before options.after (is_wanted options finding.has_match) (lines text)
+  -- the lines that are shown of these
+  abbrev pub line_rows : List (List ℕ) → List Row
+  line_rows lines = rows_of options.most options.before options.after (is_wanted options finding.has_match) lines
 
-  -- how many lines are wanted
+  abbrev pub text_rows : List ℕ → List Row
+  text_rows text = line_rows (lines text)
+
+  -- how many of these lines are wanted
+  abbrev pub wanted_of : List (List ℕ) → ℕ
+  wanted_of lines = count_by (is_wanted options finding.has_match) lines
+
   abbrev pub wanted_count : List ℕ → ℕ
-  wanted_count text = count_by (is_wanted options finding.has_match) (lines text)
+  wanted_count text = wanted_of (lines text)
 
   -- how many lines are marked
   abbrev pub count_of : List ℕ → ℕ

@@ -1,10 +1,11 @@
 -- Rows one after another, with what is printed before each: the definition that the printing of a text is proved from.
-use Rattle.std.specs.Prelude.{ℕ, ◌≡◌, ◌+◌, Bool, true, false, nat_eq, if◌then◌else◌, List, [], ◌∷◌, ◌++◌, Result, OnOk}
+use Rattle.std.specs.Prelude.{ℕ, ◌≡◌, ◌+◌, Bool, true, false, not, ◌||◌, nat_eq, nat_lt, if◌then◌else◌, List, [], ◌∷◌, ◌++◌}
 use Rattle.cs_lines.specs.Contexts.{Row}
 use Rattle.cs_lines.specs.Forms.{Span}
 use Rattle.cs_lines.specs.Printing.{needs_spans}
 use Rattle.cs_lines.specs.Findings.{Finding}
 use Rattle.cs_lines.specs.Shown.{shown_bytes, heading, gap, line_gap}
+use Rattle.cs_lines.specs.declared.form.ShowOptions.{ShowOptions}
 use Rattle.cs_lines.specs.declared.rows.Page.{Page}
 use Rattle.cs_lines.specs.declared.rows.Rows.{Rows}
 
@@ -61,23 +62,26 @@ abbrev pub IsPrinted : Rows → Rows → List ℕ → List ℕ → List Row → 
 IsPrinted old new given later rows =
     ((finding : Finding) → progress_of new later ≡ printed_by old.page finding (progress_of old given) rows) × (new.page ≡ old.page)
 
--- these rows were printed; the last is a marked line with these matches
-abbrev pub IsMarkPrinted : Rows → Rows → List ℕ → List ℕ → List ℕ → List Span → List Row → Type 0
-IsMarkPrinted old new given later line spans rows = ((finding : Finding) →
-    (needs_spans old.page.options.now.form ≡ true → finding.spans line ≡ spans) →
-    progress_of new later ≡ printed_by old.page finding (progress_of old given) rows) × (new.page ≡ old.page)
-
 -- the scan of the lines is where it was
 abbrev pub KeepsScan : Rows → Rows → Type 0
 KeepsScan old new = (new.number ≡ old.number) × (new.most ≡ old.most) × (new.left ≡ old.left)
 
 -- This row was printed, if the finding has these matches in its line and they are needed.
-abbrev pub ShowsRow : {A E : Type 0} → Rows → Rows → List ℕ → List ℕ → Row → List Span → Result A E → Type 0
-ShowsRow old new given later row spans result = OnOk result (((finding : Finding) → HasSpans old.page finding row spans →
+abbrev pub ShowsRow : Rows → Rows → List ℕ → List ℕ → Row → List Span → Type 0
+ShowsRow old new given later row spans = ((finding : Finding) → HasSpans old.page finding row spans →
     progress_of new later ≡ printed_by old.page finding (progress_of old given) (row ∷ []))
-    × (new.page ≡ old.page) × KeepsScan old new)
+    × (new.page ≡ old.page) × KeepsScan old new
 
--- On success these rows were printed.
-abbrev pub ShowsRows : {A E : Type 0} → Rows → Rows → List ℕ → List ℕ → List Row → Result A E → Type 0
-ShowsRows old new given later rows result =
-    OnOk result (IsPrinted old new given later rows × KeepsScan old new)
+-- ---- numbers
+
+-- whether numbers matter: they are printed, or say what is between two rows
+abbrev pub has_numbers : ShowOptions → Bool
+has_numbers options = options.form.number || nat_lt 0 (options.before + options.after)
+
+-- only marked lines are shown, and not where their matches are
+abbrev pub is_plain : ShowOptions → Bool
+is_plain options = not (nat_lt 0 (options.before + options.after) || needs_spans options.form)
+
+-- What is seen of a progress. Where numbers do not matter, lines that are not shown are not counted.
+abbrev pub seen : Progress → List ℕ × Bool
+seen progress = (progress.given, progress.shown)

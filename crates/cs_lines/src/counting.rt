@@ -1,67 +1,74 @@
-// The number of marked lines of a text that is read from a source, block by block.
-ghost use Rattle.std.specs.Prelude.{◌≡◌, ◌≤◌, ◌<◌, ◌+◌, ◌^◌, IfOk, length, take};
-ghost use Rattle.cs_lines.specs.Cited.{HasNoNewline, count_if, CountsEnded, CountsWindow, CountsText, is_enough, KeepsSearch, is_failed};
+// The number of wanted lines of a text, up to a limit.
+ghost use Rattle.std.specs.Prelude.{◌≡◌, ◌≤◌, ◌<◌, ◌+◌, ◌^◌, true, IfOk, length, take};
+ghost use Rattle.cs_tree.specs.StreamModels.{ends};
+ghost use Rattle.cs_tree.specs.Transfers.{IsAt};
+ghost use Rattle.cs_lines.specs.Buffer.{pending_bytes};
+ghost use Rattle.cs_lines.specs.Cited.{HasNoNewline, AreWholeLines, count_if, CountsBlock, CountsPending, CountsStream, CountsText, is_enough, ReadsToEnd, KeepsSearch, has_stopped, has_failed_count, Takes, TakesRead, input_work, line_weight, pending_work, searched_work};
 
+use crate::buffer::LineBuffer;
 use crate::form::ShowOptions;
 use crate::search::LineSearch;
 use crate::stream::{Ended, ended_len, unread};
-use crate::text::{ended_count, last_count};
-use crate::window::Window;
+use crate::text::{ended_count, ended_some, last_count};
+use cs_match::whole_lines_len;
 use cs_tree::Source;
 use std::alloc::AllocError;
 
-/// How many lines of a text are marked.
+/// How many lines of a text are wanted.
 #[derive(Clone, Copy, Drop)]
 pub(crate) struct Counted {
     pub(crate) count: u64,
     pub(crate) ended: Ended,
 }
 
-/// Wanted lines that have ended.
-#[derive(Clone, Copy, Drop)]
-pub(crate) struct EndedLines {
-    pub(crate) count: u64,
-    /// The length of all lines that have ended.
-    pub(crate) len: usize,
-}
-
-/// How many lines of a text are wanted, of those that have ended. The first `scanned` bytes have no
-/// newline.
-fn count_ended(
+/// How many lines of a block of whole lines are wanted: enough of them, if so many are enough.
+fn count_block(
     options: &ShowOptions,
-    text: &[u8],
-    scanned: usize,
+    most: Option<u64>,
+    block: &[u8],
     search: &mut LineSearch<'_>,
-) -> EndedLines
-    requires within { scanned ≤ length text.now }
-    requires scanned { HasNoNewline (take scanned text.now) }
-    ensures count { CountsEnded options.now search.old text.now result }
+) -> u64
+    requires whole { AreWholeLines block.now }
+    ensures count { CountsBlock options.now most search.old block.now result }
+    ensures bound { result ≤ length block.now }
     ensures same { KeepsSearch search.old search.new }
+    ensures budget { has_stopped search.new ≡ has_stopped search.old }
+    ensures work { Takes (searched_work (line_weight search.old) (length block.now)) search.old search.new }
 {
-    let Some(len) = ended_len(text, 0, scanned) else {
-        return EndedLines { count: 0, len: 0 };
-    };
-    let count = ended_count(options, &text[..len], search);
-    EndedLines { count, len }
+    match most {
+        Some(1) => ended_some(options, block, search),
+        _ => ended_count(options, block, search),
+    }
 }
 
-/// Counts the wanted lines of the window that have ended, and drops them. The first `scanned` bytes
-/// have no newline.
-fn count_window(
+/// Counts the wanted pending lines that have ended, and drops all that have. The first `scanned`
+/// bytes have no newline.
+fn count_pending(
     options: &ShowOptions,
-    window: &mut Window,
+    most: Option<u64>,
+    buffer: &mut LineBuffer,
     scanned: usize,
     search: &mut LineSearch<'_>,
 ) -> u64
-    requires within { scanned ≤ length window.old.text.items }
-    requires scanned { HasNoNewline (take scanned window.old.text.items) }
-    ensures count { CountsWindow options.now search.old window.old.text.items window.new.text.items result }
-    ensures left { window.new.left ≡ window.old.left }
+    requires within { scanned ≤ length (pending_bytes buffer.old) }
+    requires scanned { HasNoNewline (take scanned (pending_bytes buffer.old)) }
+    ensures count { CountsPending options.now most search.old (pending_bytes buffer.old)
+        (pending_bytes buffer.new) result }
+    ensures left { buffer.new.left ≡ buffer.old.left }
+    ensures ended { buffer.new.ended ≡ buffer.old.ended }
     ensures same { KeepsSearch search.old search.new }
+    ensures budget { has_stopped search.new ≡ has_stopped search.old }
+    ensures work { Takes (pending_work (line_weight search.old) (pending_bytes buffer.old) scanned) search.old
+        search.new }
 {
-    let ended = count_ended(options, &window.text, scanned, search);
-    window.skip(ended.len);
-    ended.count
+    let text = buffer.pending();
+    search.add_steps(text.len() - scanned);
+    let Some(len) = ended_len(text, 0, scanned) else {
+        return 0;
+    };
+    let count = count_block(options, most, &text[..len], search);
+    buffer.skip(len);
+    count
 }
 
 /// Whether no more lines need to be counted.
@@ -74,35 +81,40 @@ fn is_enough(most: Option<u64>, count: u64) -> bool
     }
 }
 
-/// How many lines of a text are wanted, up to `most`. The window has its first bytes, and the
+/// How many lines of a text are wanted, up to `most`. The buffer has its first bytes, and the
 /// source the rest.
 pub(crate) fn stream_count<R: Source>(
     options: &ShowOptions,
     most: Option<u64>,
     input: &mut R,
-    window: &mut Window,
+    buffer: &mut LineBuffer,
     search: &mut LineSearch<'_>,
 ) -> Result<Counted, AllocError>
-    requires room { length window.old.text.items + window.old.left < 2 ^ 63 }
-    ensures count { IfOk result (CountsText search.old options.now most (R.model input.old)
-        window.old.text.items) }
-    ensures failed { IfOk result (λ counted.
-        R.failed input.new ≡ count_if (is_failed counted.ended) (R.failed input.old)) }
+    requires room { length (pending_bytes buffer.old) + buffer.old.left < 2 ^ 63 }
+    requires ended { buffer.old.ended ≡ true → IsAt ends (R.model input.old) }
+    ensures count { IfOk result (CountsStream search.old options.now most buffer.old.left
+        (R.model input.old) (pending_bytes buffer.old)) }
+    ensures ended { IfOk result (λ counted. ReadsToEnd buffer.old.left (R.model input.old) counted.ended) }
+    ensures failed { R.failed input.new ≡ count_if (has_failed_count result) (R.failed input.old) }
     ensures same { KeepsSearch search.old search.new }
+    ensures budget { has_stopped search.new ≡ has_stopped search.old }
+    ensures work { TakesRead (input_work (line_weight search.old)) (pending_bytes buffer.old) buffer.old.left
+        (R.model input.old) (R.model input.new) search.old search.new }
     ensures keeps { R.Keeps input.old input.new }
 {
     let mut count = 0;
     let mut scanned = 0;
     'pieces: loop {
-        count += count_window(options, window, scanned, search);
+        count += count_pending(options, most, buffer, scanned, search);
         if is_enough(most, count) {
             return Ok(Counted {
                 count,
                 ended: Ended::Whole,
             });
         }
-        scanned = window.text.len();
-        match window.fill(input) {
+        scanned = buffer.pending().len();
+        search.add_steps(1);
+        match buffer.fill(input) {
             Ok(0) => break,
             Ok(_) => {}
             Err(fault) => {
@@ -111,9 +123,31 @@ pub(crate) fn stream_count<R: Source>(
             }
         }
     }
-    count += last_count(options, &window.text, search);
+    count += last_count(options, buffer.pending(), search);
     Ok(Counted {
         count,
         ended: Ended::Whole,
     })
+}
+
+/// The same of a text in memory.
+pub(crate) fn text_count(
+    options: &ShowOptions,
+    most: Option<u64>,
+    text: &[u8],
+    search: &mut LineSearch<'_>,
+) -> u64
+    requires room { length text.now < 2 ^ 63 }
+    ensures count { CountsText search.old options.now most text.now result }
+    ensures same { KeepsSearch search.old search.new }
+    ensures budget { has_stopped search.new ≡ has_stopped search.old }
+    ensures work { Takes (input_work (line_weight search.old) text.now) search.old search.new }
+{
+    search.add_steps(text.len());
+    let end = whole_lines_len(text);
+    let count = count_block(options, most, &text[..end], search);
+    if is_enough(most, count) {
+        return count;
+    }
+    count + last_count(options, &text[end..], search)
 }

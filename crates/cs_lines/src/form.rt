@@ -19,6 +19,8 @@ pub struct LineForm {
     pub nul: bool,
     /// Names, numbers, separators and matches in colours.
     pub colour: bool,
+    /// A count is `NAME: COUNT`, also where lines have no names, as in Go's csearch.
+    pub spaced: bool,
 }
 
 /// What is printed of a text.

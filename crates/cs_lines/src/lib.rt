@@ -3,47 +3,40 @@
 //! where) and `specs/Shown.antt` (a text, and texts one after another). `specs/Project.antt` says
 //! what is printed for a file of a project, which may be binary, and the exit status.
 //!
-//! A block of lines is searched for its next line to show, by the matcher of cs_match. `Rows` holds
-//! the lines before it that may still be shown, and how many after the last one are to be. A line
-//! is printed with its matches (`Finder`) if the form needs them. `Page` is what earlier texts
-//! leave to be printed between groups.
+//! The matcher of cs_match lists the matching lines of a block (`LineSearch::list_lines`), and each
+//! is marked in place (`Rows::mark`): shown with the lines around it. `Rows` holds the lines before
+//! it that may still be shown, and how many after the last one are to be. A line is printed with
+//! its matches (`Finder`) if the form needs them. `Page` is what earlier texts leave to be printed
+//! between groups.
 //!
-//! A text comes from a source (`print_file`): a `Window` has the bytes of it that are still needed,
-//! the lines that are held and the line that has not ended, and each read adds some. What was
-//! printed and what is still to be printed are the same at each block, whatever follows
+//! A text comes from a source (`print_file`): a `LineBuffer` has the bytes of it that are still
+//! needed, the lines that are held and the line that has not ended, and each read adds some. What
+//! was printed and what is still to be printed are the same at each block, whatever follows
 //! (`StreamsRows` of `specs/Streams.antt`), so the whole text need not be there at once, and memory
 //! does not grow with it. Whether it is binary is seen from its first bytes. A count stops as soon
-//! as it is known.
+//! as it is known. `specs/Work.antt` bounds the steps of all of it.
 #![tactic(auto)]
 
 mod binary;
+mod buffer;
 mod counting;
 mod form;
 mod found;
 pub mod laws;
-mod letter_case;
 mod lines;
-mod named;
 mod row;
 mod rows;
 mod search;
 mod searching;
-mod settings;
 mod source;
 mod stream;
 mod text;
-mod window;
-mod words;
 
 pub use binary::{BinaryFiles, is_binary};
+pub use buffer::{FillFault, LineBuffer};
 pub use form::{LineForm, Mode, ShowOptions};
-pub use letter_case::{LetterCase, case_of};
-pub use named::{Named, Switch, Valued};
+pub use lines::line_count;
 pub use rows::Page;
 pub use search::LineSearch;
-pub use settings::{FileChoice, Limits, PatternStyle, StateUse, Surroundings, Switches, Task};
-pub use source::print_file;
+pub use source::{print_file, print_input, print_text};
 pub use stream::{Ended, Streamed};
-pub use text::{print_lines, print_text};
-pub use window::{ReadFault, Window};
-pub use words::{ItemFault, WordItem, read_items};

@@ -1,6 +1,6 @@
 // Lines at the start and at the end of a block of whole lines.
 ghost use Rattle.std.specs.Prelude.{◌≡◌, ◌≤◌, ◌<◌, ◌-◌, ◌+◌, ◌∷◌, length, take, drop, slice_range};
-ghost use Rattle.cs_lines.specs.Cited.{newline, terminated_lines, HasNoNewline, AreWholeLines};
+ghost use Rattle.cs_lines.specs.Cited.{newline, terminated_lines, HasNoNewline, AreWholeLines, IsFirstLines};
 
 use cs_match::whole_lines_len;
 use memchr::memchr;
@@ -37,12 +37,26 @@ pub(crate) fn last_lines(block: &[u8], count: usize) -> usize
     start
 }
 
+/// The length of the first `count` lines of a block, or of all if it has fewer.
+pub(crate) fn first_lines(block: &[u8], count: usize) -> usize
+    requires whole { AreWholeLines block.now }
+    ensures { IsFirstLines count block.now result }
+{
+    let mut offset = 0;
+    let mut left = count;
+    'lines: while left > 0 && offset < block.len() {
+        offset = line_end(block, offset) + 1;
+        left -= 1;
+    }
+    offset
+}
+
 // The number of newlines in this many bytes fits in one byte, so the count vectorizes with lanes of
 // one byte.
 const PART: usize = 240;
 
 /// The number of lines of a block of whole lines.
-pub(crate) fn line_count(block: &[u8]) -> usize
+pub fn line_count(block: &[u8]) -> usize
     ensures exact { result ≡ length (terminated_lines block.now) }
     ensures within { result ≤ length block.now }
 {

@@ -3,9 +3,8 @@ ghost use Rattle.std.specs.Prelude.{◌≡◌, ◌++◌, ◌∷◌, [], false, N
 ghost use Rattle.cs_lines.specs.Cited.{newline, dyed, separator, separated, name_part, number_part, prefix_of, row_bytes, Span, Prints, row_of, needs_spans};
 
 use crate::form::LineForm;
-use cs_output::Output;
+use cs_tree::{Sink, SinkOutput};
 use itoa::Buffer;
-use std::alloc::AllocError;
 
 /// A line that is shown.
 #[derive(Clone, Copy, Drop)]
@@ -17,87 +16,82 @@ pub(crate) struct LineRow<'a> {
 
 impl LineForm {
     /// A text, in this colour if the form has colours.
-    pub(crate) fn print_dyed<O: Output>(
+    #[tactic(auto, using(crate::proofs::Printing::printing))]
+    pub(crate) fn print_dyed<O: Sink>(
         &self,
         colour: &[u8],
         text: &[u8],
-        out: &mut O,
-    ) -> Result<(), AllocError>
-        ensures { Prints (O.given out.old) (O.given out.new) (dyed self.now colour.now text.now) result }
+        out: &mut SinkOutput<'_, O>,
+    )
+        ensures { Prints O.model O.failed out.old out.new (dyed self.now colour.now text.now) }
     {
         if !self.colour {
-            return out.append(text);
+            out.print(text);
+            return;
         }
-        out.append(b"\x1b[")?;
-        out.append(colour)?;
-        out.append(b"m")?;
-        out.append(text)?;
-        out.append(b"\x1b[m")
+        out.print(b"\x1b[");
+        out.print(colour);
+        out.print(b"m");
+        out.print(text);
+        out.print(b"\x1b[m");
     }
 
     /// What ends a part of the prefix: a colon if the line is marked, else a hyphen.
-    pub(crate) fn print_separator<O: Output>(
-        &self,
-        marked: bool,
-        out: &mut O,
-    ) -> Result<(), AllocError>
-        ensures { Prints (O.given out.old) (O.given out.new) (dyed self.now (codes "36")
-            (separator marked)) result }
+    pub(crate) fn print_separator<O: Sink>(&self, marked: bool, out: &mut SinkOutput<'_, O>)
+        ensures { Prints O.model O.failed out.old out.new (dyed self.now (codes "36") (separator marked)) }
     {
         if marked {
-            self.print_dyed(b"36", b":", out)
+            self.print_dyed(b"36", b":", out);
         } else {
-            self.print_dyed(b"36", b"-", out)
+            self.print_dyed(b"36", b"-", out);
         }
     }
 
     /// A text and its separator.
-    fn print_separated<O: Output>(
+    #[tactic(auto, using(crate::proofs::Printing::printing))]
+    fn print_separated<O: Sink>(
         &self,
         marked: bool,
         colour: &[u8],
         text: &[u8],
-        out: &mut O,
-    ) -> Result<(), AllocError>
-        ensures { Prints (O.given out.old) (O.given out.new)
-            (separated self.now marked colour.now text.now) result }
+        out: &mut SinkOutput<'_, O>,
+    )
+        ensures { Prints O.model O.failed out.old out.new (separated self.now marked colour.now text.now) }
     {
-        self.print_dyed(colour, text, out)?;
-        self.print_separator(marked, out)
+        self.print_dyed(colour, text, out);
+        self.print_separator(marked, out);
     }
 
     /// The name, unless the form has none beside lines.
-    pub(crate) fn print_name<O: Output>(
-        &self,
-        name: &str,
-        marked: bool,
-        out: &mut O,
-    ) -> Result<(), AllocError>
-        ensures { Prints (O.given out.old) (O.given out.new) (name_part self.now name.now marked) result }
+    #[tactic(auto, using(crate::proofs::Printing::printing))]
+    pub(crate) fn print_name<O: Sink>(&self, name: &str, marked: bool, out: &mut SinkOutput<'_, O>)
+        ensures { Prints O.model O.failed out.old out.new (name_part self.now name.now marked) }
     {
         if self.bare || self.heading {
-            return Ok(());
+            return;
         }
         if self.nul {
-            self.print_dyed(b"35", name.as_bytes(), out)?;
-            return out.append(b"\0");
+            self.print_dyed(b"35", name.as_bytes(), out);
+            out.print(b"\0");
+            return;
         }
-        self.print_separated(marked, b"35", name.as_bytes(), out)
+        self.print_separated(marked, b"35", name.as_bytes(), out);
     }
 
     /// The number, if the form has numbers.
-    pub(crate) fn print_number<O: Output>(
+    #[tactic(auto, using(crate::proofs::Printing::printing))]
+    pub(crate) fn print_number<O: Sink>(
         &self,
         number: u64,
         marked: bool,
-        out: &mut O,
-    ) -> Result<(), AllocError>
-        ensures { Prints (O.given out.old) (O.given out.new) (number_part self.now number marked) result }
+        out: &mut SinkOutput<'_, O>,
+    )
+        ensures { Prints O.model O.failed out.old out.new (number_part self.now number marked) }
     {
         if !self.number {
-            return Ok(());
+            return;
         }
         let mut digits = Buffer::new();
-        self.print_separated(marked, b"32", digits.format(number).as_bytes(), out)
+        self.print_separated(marked, b"32", digits.format(number).as_bytes(), out);
     }
 }

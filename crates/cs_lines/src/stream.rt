@@ -1,13 +1,15 @@
 // The printing of the lines of a text that is read from a source, block by block.
-ghost use Rattle.std.specs.Prelude.{◌≡◌, ◌≤◌, ◌<◌, ◌+◌, ◌-◌, ◌^◌, false, IfOk, IfSome, MatchOption, OnOk, length, take, drop, slice_range};
-ghost use Rattle.cs_lines.specs.Cited.{last_line, terminated_lines, HasNoNewline, AreWholeLines, count_if, KeepsSearch, Fits, SearchesLast, is_failure, EndsAt, IsHeld, IsReady, IsTrimmed, StreamsRows, StreamsLines, is_failed, is_whole};
+ghost use Rattle.std.specs.Prelude.{◌≡◌, ◌≤◌, ◌<◌, ◌+◌, ◌-◌, ◌*◌, ◌^◌, [], true, false, IfOk, MatchOption, OnOk, OnErr, length, take, drop, slice_range};
+ghost use Rattle.cs_tree.specs.StreamModels.{ends};
+ghost use Rattle.cs_tree.specs.Transfers.{IsAt};
+ghost use Rattle.cs_lines.specs.Buffer.{pending_bytes};
+ghost use Rattle.cs_lines.specs.Cited.{last_line, terminated_lines, HasNoNewline, AreWholeLines, count_if, Keeps, given, KeepsSearch, StopsBySpans, Fits, SearchesLast, EndsAt, EndsBy, ReadsToEnd, IsReady, IsTrimmed, BeginsBytes, BeginsLines, IsCounted, no_held, Takes, TakesRead, line_weight, line_work, part_work, shown_work, walks, StreamsRows, StreamsLines, has_failed_read, is_failure, is_whole, FailsAlone};
 
-use crate::lines::{last_lines, line_count};
+use crate::buffer::{FillFault, LineBuffer};
+use crate::lines::{first_lines, line_count};
 use crate::rows::{Page, Rows};
 use crate::search::LineSearch;
-use crate::window::{ReadFault, Window};
-use cs_output::Output;
-use cs_tree::Source;
+use cs_tree::{Sink, SinkOutput, Source};
 use memchr::memrchr;
 use std::alloc::AllocError;
 
@@ -34,13 +36,6 @@ impl Ended {
     }
 }
 
-/// Lines that are held: where they begin and end.
-#[derive(Clone, Copy, Drop)]
-pub(crate) struct Held {
-    pub(crate) start: usize,
-    pub(crate) end: usize,
-}
-
 /// What became of a text.
 #[derive(Clone, Copy, Drop)]
 pub struct Streamed {
@@ -63,121 +58,167 @@ pub(crate) fn ended_len(text: &[u8], from: usize, scanned: usize) -> Option<usiz
     }
 }
 
+/// Lines that are held.
+#[derive(Clone, Copy, Drop)]
+pub(crate) struct HeldLines {
+    pub(crate) len: usize,
+    /// How many these are. It is counted only where lines around marked ones are shown.
+    pub(crate) lines: usize,
+}
+
+impl HeldLines {
+    /// Those that are held from an offset on: all or, if some were shown or dropped, none.
+    fn from(self, start: usize) -> HeldLines
+        ensures same { start ≡ 0 → result ≡ self }
+        ensures none { (start ≡ 0 → ⊥) → result ≡ no_held }
+    {
+        if start == 0 {
+            self
+        } else {
+            HeldLines { len: 0, lines: 0 }
+        }
+    }
+}
+
 impl Rows<'_> {
-    /// Forgets lines that are held and that no later line can show. Returns where the others begin.
-    fn trim(&mut self, held: &[u8]) -> usize
+    /// Forgets lines that are held and that no later line can show: the first ones. `known` are the
+    /// first ones that were held before. Returns those that are held then.
+    fn trim(&mut self, held: &[u8], known: HeldLines) -> HeldLines
         requires whole { AreWholeLines held.now }
         requires fits { Fits (terminated_lines held.now) self.old.left }
         requires room { self.old.number + length held.now < 2 ^ 64 }
-        ensures { IsTrimmed self.old self.new held.now result }
+        requires known { IsCounted self.old.page.options.now held.now known }
+        ensures trimmed { IsTrimmed self.old self.new held.now (length held.now - result.len) }
+        ensures within { result.len ≤ length held.now }
+        ensures counted { IsCounted self.old.page.options.now (drop (length held.now - result.len)
+            held.now) result }
     {
-        let start = last_lines(held, self.page.options.before);
-        self.number += line_count(&held[..start]) as u64;
-        start
+        if !self.page.options.has_context() {
+            self.number += self.counted(held);
+            return HeldLines { len: 0, lines: 0 };
+        }
+        let lines = known.lines + line_count(&held[known.len..]);
+        let extra = lines.saturating_sub(self.page.options.before);
+        let start = first_lines(held, extra);
+        self.number += extra as u64;
+        HeldLines {
+            len: held.len() - start,
+            lines: lines - extra,
+        }
     }
 
-    /// Searches the lines of a text that have ended. Those before `from` are held. Returns which
-    /// lines are held then.
-    fn search_ended<O: Output>(
+    /// Searches the pending lines that have ended, and drops those that are not held then. The
+    /// first are held, and the bytes from there to `scanned` are no whole line. Returns those that
+    /// are held then.
+    fn search_pending<O: Sink>(
         &mut self,
-        text: &[u8],
-        from: usize,
+        buffer: &mut LineBuffer,
+        held: HeldLines,
         scanned: usize,
         search: &mut LineSearch<'_>,
-        out: &mut O,
-    ) -> Result<Held, AllocError>
-        requires ready { IsReady self.old text.now from scanned }
-        requires room { self.old.number + length text.now < 2 ^ 63 }
-        ensures held { IfOk result (IsHeld self.old self.new text.now) }
-        ensures rows { IfOk result (λ held. StreamsRows search.old search.new self.old self.new
-            (O.given out.old) (O.given out.new) from text.now
-            (drop held.start text.now) (held.end - held.start)) }
+        out: &mut SinkOutput<'_, O>,
+    ) -> Result<HeldLines, AllocError>
+        requires ready { IsReady self.old (pending_bytes buffer.old) held.len scanned }
+        requires known { IsCounted self.old.page.options.now (pending_bytes buffer.old) held }
+        requires room { self.old.number + length (pending_bytes buffer.old) + buffer.old.left < 2 ^ 63 }
+        ensures ready { IfOk result (λ kept. IsReady self.new (pending_bytes buffer.new) kept.len
+            (length (pending_bytes buffer.new))) }
+        ensures known { IfOk result (IsCounted self.old.page.options.now (pending_bytes buffer.new)) }
+        ensures room { OnOk result (self.new.number + length (pending_bytes buffer.new)
+            + buffer.new.left < 2 ^ 63) }
+        ensures rows { IfOk result (λ kept. StreamsRows search.old search.new self.old self.new
+            (given out.old) (given out.new) held.len (pending_bytes buffer.old)
+            (pending_bytes buffer.new) kept.len) }
+        ensures begins { OnErr result (BeginsBytes search.old search.new self.old (given out.old)
+            (given out.new) held.len (pending_bytes buffer.old)) }
+        ensures left { buffer.new.left ≡ buffer.old.left }
+        ensures ended { buffer.new.ended ≡ buffer.old.ended }
         ensures same { KeepsSearch search.old search.new }
+        ensures budget { StopsBySpans self.old.page.options.now.form search.old search.new }
+        ensures work { IfOk result (λ kept. Takes (length (pending_bytes buffer.old) - scanned
+            + part_work self.old.page.options.now (line_weight search.old)
+            (length (pending_bytes buffer.old) - held.len - (length (pending_bytes buffer.new) - kept.len))
+            (length (pending_bytes buffer.old) - length (pending_bytes buffer.new))) search.old search.new) }
+        ensures cut { OnErr result (Takes (length (pending_bytes buffer.old) - scanned
+            + part_work self.old.page.options.now (line_weight search.old)
+            (length (pending_bytes buffer.old) - held.len) (length (pending_bytes buffer.old)))
+            search.old search.new) }
+        ensures keeps { Keeps O.model O.failed out.old out.new }
     {
-        let Some(end) = ended_len(text, from, scanned) else {
-            return Ok(Held {
-                start: 0,
-                end: from,
-            });
+        let text = buffer.pending();
+        search.add_steps(text.len() - scanned);
+        let Some(end) = ended_len(text, held.len, scanned) else {
+            return Ok(held);
         };
-        let held = self.search_block(&text[..end], from, search, out)?;
-        let more = self.trim(&text[held..end]);
-        Ok(Held {
-            start: held + more,
-            end,
-        })
-    }
-
-    /// Searches the lines of the window that have ended, and drops those that are not held then.
-    /// Returns the length of the others.
-    fn search_window<O: Output>(
-        &mut self,
-        window: &mut Window,
-        from: usize,
-        scanned: usize,
-        search: &mut LineSearch<'_>,
-        out: &mut O,
-    ) -> Result<usize, AllocError>
-        requires ready { IsReady self.old window.old.text.items from scanned }
-        requires room { self.old.number + length window.old.text.items + window.old.left < 2 ^ 63 }
-        ensures ready { IfOk result (λ from'. IsReady self.new window.new.text.items from'
-            (length window.new.text.items)) }
-        ensures room { OnOk result (self.new.number + length window.new.text.items
-            + window.new.left < 2 ^ 63) }
-        ensures rows { IfOk result (StreamsRows search.old search.new self.old self.new (O.given out.old)
-            (O.given out.new) from window.old.text.items window.new.text.items) }
-        ensures left { window.new.left ≡ window.old.left }
-        ensures same { KeepsSearch search.old search.new }
-    {
-        let held = self.search_ended(&window.text, from, scanned, search, out)?;
-        window.skip(held.start);
-        Ok(held.end - held.start)
+        let start = self.search_block(&text[..end], held.len, search, out)?;
+        let kept = self.trim(&text[start..end], held.from(start));
+        self.page
+            .options
+            .count_held(end - held.len, end - start - kept.len, search);
+        buffer.skip(end - kept.len);
+        Ok(kept)
     }
 
     /// Searches the bytes after the last newline of a text. The lines before are held.
-    fn search_rest<O: Output>(
+    fn search_rest<O: Sink>(
         &mut self,
         text: &[u8],
         from: usize,
         search: &mut LineSearch<'_>,
-        out: &mut O,
+        out: &mut SinkOutput<'_, O>,
     ) -> Result<(), AllocError>
         requires within { from ≤ length text.now }
         requires whole { AreWholeLines (take from text.now) }
         requires fits { Fits (terminated_lines (take from text.now)) self.old.left }
         requires room { self.old.number + length text.now < 2 ^ 63 }
-        ensures rows { OnOk result (SearchesLast search.old search.new self.old self.new (O.given out.old)
-            (O.given out.new) (terminated_lines (take from text.now)) (last_line (drop from text.now))) }
+        ensures rows { OnOk result (SearchesLast search.old search.new self.old self.new (given out.old)
+            (given out.new) (terminated_lines (take from text.now)) (last_line (drop from text.now))) }
+        ensures begins { OnErr result (given out.new ≡ given out.old) }
         ensures same { KeepsSearch search.old search.new }
+        ensures budget { StopsBySpans self.old.page.options.now.form search.old search.new }
+        ensures work { Takes (line_work (line_weight search.old) (length (drop from text.now))
+            + walks self.old.page.options.now * from) search.old search.new }
+        ensures keeps { Keeps O.model O.failed out.old out.new }
     {
         self.search_last(&text[..from], &text[from..], search, out)
     }
 }
 
-/// Prints the lines of a text that are to be shown. The window has its first bytes, and the source
-/// the rest.
-pub(crate) fn stream_lines<R: Source, O: Output>(
+/// Prints the lines of a text that are to be shown. The buffer has its first bytes, and the source
+/// the rest. Nothing is read after a write that failed.
+pub(crate) fn stream_lines<R: Source, O: Sink>(
     page: &Page<'_>,
     input: &mut R,
-    window: &mut Window,
+    buffer: &mut LineBuffer,
     search: &mut LineSearch<'_>,
-    out: &mut O,
+    out: &mut SinkOutput<'_, O>,
 ) -> Result<Streamed, AllocError>
-    requires room { 1 + length window.old.text.items + window.old.left < 2 ^ 63 }
-    ensures lines { IfOk result (StreamsLines search.old search.new page.now (R.model input.old)
-        window.old.text.items (O.given out.old) (O.given out.new)) }
-    ensures failed { IfOk result (λ streamed.
-        R.failed input.new ≡ count_if (is_failed streamed.ended) (R.failed input.old)) }
+    requires room { 1 + length (pending_bytes buffer.old) + buffer.old.left < 2 ^ 63 }
+    requires ended { buffer.old.ended ≡ true → IsAt ends (R.model input.old) }
+    ensures lines { IfOk result (StreamsLines search.old search.new page.now buffer.old.left
+        (R.model input.old) (pending_bytes buffer.old) (given out.old) (given out.new)) }
+    ensures begins { BeginsLines search.old search.new page.now buffer.old.left (R.model input.old)
+        (pending_bytes buffer.old) (given out.old) (given out.new) }
+    ensures ended { IfOk result (λ streamed. ReadsToEnd buffer.old.left (R.model input.old) streamed.ended) }
+    ensures failed { R.failed input.new ≡ count_if (has_failed_read result) (R.failed input.old) }
+    ensures alone { FailsAlone out.old out.new result }
     ensures same { KeepsSearch search.old search.new }
+    ensures budget { StopsBySpans page.now.options.now.form search.old search.new }
+    ensures work { TakesRead (shown_work page.now.options.now (line_weight search.old))
+        (pending_bytes buffer.old) buffer.old.left (R.model input.old) (R.model input.new)
+        search.old search.new }
     ensures keeps { R.Keeps input.old input.new }
+    ensures handed { Keeps O.model O.failed out.old out.new }
 {
     let mut rows = Rows::new(*page);
-    let mut from = 0;
+    let mut held = HeldLines { len: 0, lines: 0 };
     let mut scanned = 0;
     'pieces: loop {
-        from = rows.search_window(window, from, scanned, search, out)?;
-        scanned = window.text.len();
-        match window.fill(input) {
+        held = rows.search_pending(buffer, held, scanned, search, out)?;
+        out.check()?;
+        scanned = buffer.pending().len();
+        search.add_steps(1);
+        match buffer.fill(input) {
             Ok(0) => break,
             Ok(_) => {}
             Err(fault) => {
@@ -189,7 +230,8 @@ pub(crate) fn stream_lines<R: Source, O: Output>(
             }
         }
     }
-    rows.search_rest(&window.text, from, search, out)?;
+    rows.search_rest(buffer.pending(), held.len, search, out)?;
+    out.check()?;
     Ok(Streamed {
         marked: rows.shown,
         ended: Ended::Whole,
@@ -197,13 +239,13 @@ pub(crate) fn stream_lines<R: Source, O: Output>(
 }
 
 /// The end of a text that cannot be read on.
-pub(crate) fn unread(fault: ReadFault) -> Result<Ended, AllocError>
-    ensures failed { IfOk result (λ ended. is_failed ended ≡ is_failure fault) }
-    ensures cut { IfOk result (λ ended. is_whole ended ≡ false) }
+pub(crate) fn unread(fault: FillFault) -> Result<Ended, AllocError>
+    ensures ended { IfOk result (EndsBy fault) }
+    ensures memory { OnErr result (is_failure fault ≡ false) }
 {
     match fault {
-        ReadFault::Failed => Ok(Ended::Failed),
-        ReadFault::TooLong => Ok(Ended::TooLong),
-        ReadFault::Memory => Err(AllocError),
+        FillFault::Failed => Ok(Ended::Failed),
+        FillFault::TooLong => Ok(Ended::TooLong),
+        FillFault::Memory => Err(AllocError),
     }
 }

@@ -1,5 +1,5 @@
 -- Definitions that public contracts cite.
-pub use Rattle.cs_prefilter.specs.CountsAtMost
+pub use Rattle.cs_tree.specs.CountsAtMost
 pub mod Globs
 pub mod Rules
 pub mod MatchWork

@@ -1,8 +1,8 @@
 -- What one step of matching finds, of a name and of a path.
 use denote.Ref.{Bor}
 use Rattle.std.specs.Prelude.{ℕ, ◌≡◌, ◌+◌, ◌≤◌, ◌<◌, true, false, List, ◌∷◌, length, drop}
-use Rattle.cs_prefilter.specs.declared.steps.Steps.{Steps}
-use Rattle.cs_prefilter.specs.CountsAtMost.{CountsAtMost}
+use Rattle.cs_tree.specs.declared.steps.Steps.{Steps}
+use Rattle.cs_tree.specs.CountsAtMost.{CountsAtMost}
 use Rattle.cs_listing.specs.Globs.{star, matches_name, folders, matches_path}
 use Rattle.cs_listing.specs.MatchWork.{tokens_work, largest}
 use Rattle.cs_listing.specs.Models.{tokens_of, glob_of, names}

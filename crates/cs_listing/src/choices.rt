@@ -1,6 +1,6 @@
 // What the user chooses of the files of a project.
 ghost use Rattle.std.specs.Prelude.{◌≡◌, ◌+◌, ◌∷◌, [], map, string_bytes, length, is_some, true, false, IfOk};
-ghost use Rattle.cs_prefilter.specs.CountsAtMost.{CountsAtMost};
+ghost use Rattle.cs_tree.specs.CountsAtMost.{CountsAtMost};
 ghost use Rattle.cs_listing.specs.Choices.{Settings, plain_settings, AddsGlob, AddsType, choice_of as choice_of', after, relative_to as relative_to', glob_choice, type_choice};
 ghost use Rattle.cs_listing.specs.Types.{AddsGlobsOf, globs_among, file_types};
 ghost use Rattle.cs_listing.specs.Layers.{last_name as last_name'};
@@ -9,7 +9,7 @@ ghost use Rattle.cs_listing.specs.Models.{names, rules_in, chosen_in};
 
 use crate::rules::{Decision, Rules};
 use crate::types::globs_of;
-use cs_prefilter::Steps;
+use cs_tree::Steps;
 use std::alloc::{AllocError, Global};
 
 /// What the user chooses. All walks of a search have the same choices.

@@ -23,8 +23,7 @@ use crate::fault::{ListFault, Unread};
 use crate::git_folders::GitFolders;
 use crate::layers::{FolderRules, Layers, RuleTexts};
 use crate::whole_files::WholeFile;
-use cs_prefilter::Steps;
-use cs_tree::{Kind, LONGEST_PATH, Look, Seen, Stamp, TreeFault};
+use cs_tree::{Kind, LONGEST_PATH, Look, Seen, Stamp, Steps, TreeFault};
 use std::alloc::{AllocError, Global};
 
 /// An entry that is still to come.

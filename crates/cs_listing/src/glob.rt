@@ -2,13 +2,13 @@
 // `**`, takes more, so each token meets each byte at most once. A `*` before a literal byte takes
 // all bytes up to the next one that is that byte.
 ghost use Rattle.std.specs.Prelude.{◌≡◌, ◌+◌, ◌≤◌, ◌∷◌, false, length};
-ghost use Rattle.cs_prefilter.specs.CountsAtMost.{CountsAtMost};
+ghost use Rattle.cs_tree.specs.CountsAtMost.{CountsAtMost};
 ghost use Rattle.cs_listing.specs.MatchWork.{token_work, tokens_work, name_work, pair_work, path_work};
 ghost use Rattle.cs_listing.specs.Globs.{is_in_ranges as is_in_ranges', accepts_byte, matches_name as matches_name', matches_path as matches_path', star, folders, is_nothing as is_nothing', can_match_name as can_match_name', can_match_element as can_match_element', can_match as can_match'};
 ghost use Rattle.cs_listing.specs.Models.{token_of, tokens_of, element_of, glob_of, names};
 ghost use Rattle.cs_listing.specs.Matching.{NameStepSays, NameStepTakes, PathStepSays};
 
-use cs_prefilter::Steps;
+use cs_tree::Steps;
 use memchr::memchr;
 use std::marker::Model;
 

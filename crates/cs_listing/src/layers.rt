@@ -1,7 +1,7 @@
 // What all rule files along a path say together.
 ghost use Rattle.std.specs.Prelude.{◌≡◌, ◌≤◌, ◌++◌, [], ◌∷◌, drop, length, IfOk, OnOk, OnErr, IfSome, IsSome, is_some, ◌↔◌, ◌<◌, ◌+◌, ◌-◌, ◌||◌};
 ghost use Rattle.std.specs.Option.{option_to_list};
-ghost use Rattle.cs_prefilter.specs.CountsAtMost.{CountsAtMost};
+ghost use Rattle.cs_tree.specs.CountsAtMost.{CountsAtMost};
 ghost use Rattle.cs_listing.specs.RuleFileReads.{most_rule_bytes};
 ghost use Rattle.cs_listing.specs.RuleTexts.{bytes_of_texts, folder_of_texts};
 ghost use Rattle.cs_listing.specs.Layers.{without_rules, rule_bytes, room_after as room_after', rules_at, deepest as deepest', repository_of as repository_of', repository_says, says as says', last_name as last_name', said_of, is_out_by_rules as is_out_by_rules', is_left_out as is_left_out'};
@@ -13,7 +13,7 @@ ghost use Rattle.cs_listing.specs.Models.{names, names_in, rules_in, folder_of, 
 use crate::choices::Choices;
 use crate::classes::begins_with;
 use crate::rules::{Decision, Rules};
-use cs_prefilter::Steps;
+use cs_tree::Steps;
 use std::alloc::{AllocError, Global};
 use std::marker::Model;
 

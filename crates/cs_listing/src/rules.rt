@@ -2,7 +2,7 @@
 // of one byte, by which a search for three bytes skips most rules that cannot match a name.
 ghost use Rattle.std.specs.Prelude.{◌≡◌, ◌++◌, ◌∷◌, [], IfOk, OnOk, map};
 ghost use Rattle.std.specs.List.{list_any};
-ghost use Rattle.cs_prefilter.specs.CountsAtMost.{CountsAtMost};
+ghost use Rattle.cs_tree.specs.CountsAtMost.{CountsAtMost};
 ghost use Rattle.cs_listing.specs.Rules.{applies as applies', decide as decide'};
 ghost use Rattle.cs_listing.specs.Braces.{AddsGlobs, globs_in, globs_saying};
 ghost use Rattle.cs_listing.specs.Choices.{is_ignore as is_ignore', takes};
@@ -17,7 +17,7 @@ use crate::glob_parsing::parse_glob;
 use crate::layers::last_name;
 use crate::marks::{glob_marks, name_marks};
 use crate::rule_lines::{line_text, without_last, without_mark};
-use cs_prefilter::Steps;
+use cs_tree::Steps;
 use std::alloc::{AllocError, Global};
 use std::marker::Model;
 

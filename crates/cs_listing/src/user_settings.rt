@@ -15,8 +15,7 @@ use crate::fault::{ListFault, Unread};
 use crate::paths::path_names;
 use crate::rules::Rules;
 use crate::settings_text::{Directive, Said, said_in};
-use cs_prefilter::Steps;
-use cs_tree::{Look, TreeFault};
+use cs_tree::{Look, Steps, TreeFault};
 use std::alloc::{AllocError, Global};
 
 /// The most files of settings that are read.

@@ -1,5 +1,5 @@
 -- The definitions that the contracts of this crate cite, passed on from one place. Declares nothing.
-pub use Rattle.cs_prefilter.specs.CountsAtMost.{CountsAtMost}
+pub use Rattle.cs_tree.specs.CountsAtMost.{CountsAtMost}
 pub use Rattle.cs_prefilter.specs.OffsetWork.{offset_work}
 pub use Rattle.cs_prefilter.specs.WordAt.{IsPrefilterOf}
 pub use Rattle.cs_syntax.specs.CharSteps.{finished, unfinished_after}

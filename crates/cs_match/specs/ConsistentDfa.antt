@@ -12,8 +12,8 @@ use Rattle.cs_match.specs.Masks.{IsScratch}
 use Rattle.cs_match.specs.LazyDfa as dfa
 use Rattle.cs_match.specs.Table.{next_number, number_after, unknown, IsRow}
 use Rattle.cs_match.specs.declared.lanes.Table.{Table}
-use Rattle.cs_prefilter.specs.declared.steps.Steps.{Steps}
-use Rattle.cs_prefilter.specs.CountsAtMost.{CountsAtMost}
+use Rattle.cs_tree.specs.declared.steps.Steps.{Steps}
+use Rattle.cs_tree.specs.CountsAtMost.{CountsAtMost}
 
 -- the tree of the program, and its cached states
 pub record Dfa : Type 0 where

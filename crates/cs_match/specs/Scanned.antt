@@ -10,7 +10,7 @@ use Rattle.cs_match.specs.Lines.{newline}
 use Rattle.cs_match.specs.MatchingEnds.{matching_ends}
 use Rattle.cs_match.specs.States.{start, next_state, state, accepts_before}
 use Rattle.cs_match.specs.Table.{found}
-use Rattle.cs_prefilter.specs.declared.steps.Steps.{Steps}
+use Rattle.cs_tree.specs.declared.steps.Steps.{Steps}
 
 -- the tree accepts before no byte of an unfinished line, from a given state
 abbrev pub NeverAccepted : Tree → State → List ℕ → Type 0

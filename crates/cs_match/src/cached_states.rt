@@ -4,7 +4,7 @@ ghost use Rattle.cs_match.specs.declared.state.State.{State};
 ghost use Rattle.cs_match.specs.Cited.{positions_of, IsPositionSet, words, CountsAtMost};
 
 use crate::state::{Behind, State};
-use cs_prefilter::Steps;
+use cs_tree::Steps;
 use std::alloc::{AllocError, Global};
 use std::marker::Model;
 

@@ -11,7 +11,7 @@ use crate::lanes::Table;
 use crate::listing::line_end;
 use crate::program::Program;
 use crate::state::State;
-use cs_prefilter::Steps;
+use cs_tree::Steps;
 use std::alloc::{AllocError, Global};
 use std::marker::Model;
 use std::ops::Range;

@@ -12,8 +12,8 @@ use crate::position::{Input, Masks};
 use crate::position_set::PositionSet;
 use crate::program::Program;
 use crate::state::LookAround;
-use cs_prefilter::Steps;
 use cs_syntax::Node;
+use cs_tree::Steps;
 use std::alloc::{AllocError, Global};
 
 /// The number of repeats of the tree.

@@ -7,7 +7,7 @@ ghost use Rattle.cs_match.specs.Lanes.{AreCuts};
 
 use crate::dfa::EndList;
 use crate::listing::{Lister, line_end};
-use cs_prefilter::Steps;
+use cs_tree::Steps;
 use std::ops::Range;
 
 /// A lane. The ends of the matching lines that it has seen are the first `count` of its list.

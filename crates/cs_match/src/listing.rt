@@ -6,7 +6,8 @@ ghost use Rattle.cs_match.specs.Cited.{CountsWithin, AreWholeLines, IsLineAfter,
 use crate::dfa::{EndList, LazyDfa};
 use crate::matcher::Line;
 use crate::pacing::Pacing;
-use cs_prefilter::{Listed, Prefilter, Steps};
+use cs_prefilter::{Listed, Prefilter};
+use cs_tree::Steps;
 use memchr::{memchr, memrchr};
 
 /// The first line that may contain a word of a prefilter, or none if no line contains one.

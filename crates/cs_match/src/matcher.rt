@@ -10,7 +10,7 @@ use crate::listing::{Lister, line_to};
 use crate::pacing::Pacing;
 use crate::program::Program;
 pub use cache::Cache;
-use cs_prefilter::Steps;
+use cs_tree::Steps;
 use std::alloc::{AllocError, Global};
 use std::marker::Model;
 

@@ -6,8 +6,8 @@ ghost use Rattle.cs_match.specs.Cited.{tree_of, position_count, position_list, i
 
 use crate::position_set::PositionSet;
 use crate::program::Program;
-use cs_prefilter::Steps;
 use cs_syntax::{ByteSet, CharSet, CharStep, Node};
+use cs_tree::Steps;
 use std::alloc::{AllocError, Global};
 
 /// A byte of a line, and what it does to the unfinished character.

@@ -4,7 +4,7 @@ ghost use Rattle.std.specs.Int.{bit_at};
 ghost use Rattle.cs_match.specs.Cited.{positions_of, IsPositionSet, has_from, has_bit_from, intersect, HasRoom, is_moved, is_selected, words};
 
 use crate::position::Mask;
-use cs_prefilter::Steps;
+use cs_tree::Steps;
 use std::alloc::{AllocError, Global};
 use std::marker::Model;
 

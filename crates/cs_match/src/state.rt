@@ -6,8 +6,8 @@ use crate::glushkov::{Offset, Scratch, enter, step_over};
 use crate::position::Input;
 use crate::position_set::PositionSet;
 use crate::program::Program;
-use cs_prefilter::Steps;
 use cs_syntax::{Node, Unfinished};
+use cs_tree::Steps;
 use std::alloc::{AllocError, Global};
 
 /// A DFA state is a set of positions, two look-behind bits and the unfinished character.

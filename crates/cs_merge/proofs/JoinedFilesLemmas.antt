@@ -6,7 +6,7 @@ use Rattle.std.proofs.lemmas.List.{length-map, take_all}
 use Rattle.cs_index.proofs.encoding.FileMapEncoding.{sorted_named, true_T}
 use Rattle.cs_index.proofs.writer.WrittenSteps.{names_bound}
 use Rattle.cs_index.specs.Encoding.{encoding}
-use Rattle.cs_output.specs.declared.output.Sent.{Sent}
+use Rattle.cs_tree.specs.declared.output.Sent.{Sent}
 use Rattle.cs_merge.proofs.Common.{and_from, cases_lt, list_all, bytes_cmp, is_sorted, are_ascending, max_ids, Entry, ListEntry, PostingList, Parts, are_whole, ids_read, lists_in, files_read, entries_of, set_at, names_of, names_entries, encoding_of, postings_of, entries_in_order, AllByRecursion, Written, entries_written, MergeFault}
 use Rattle.cs_merge.proofs.NameStepLemmas.{none_past}
 use Rattle.cs_merge.proofs.ReadIdsLemmas.{read_posting}

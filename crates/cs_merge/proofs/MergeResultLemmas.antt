@@ -1,7 +1,7 @@
 -- Results of the merge.
 use Rattle.std.proofs.Common.{◌≡◌, ℕ, ◌<◌, true, ◌&&◌, List, length, Result, Ok, Err, ap, sym, subst, ◌∙◌, IfOk, IfErr, MatchResult}
 use Rattle.cs_merge.proofs.Common.{and_from, and_parts, is_covered, are_distinct, encoding_of, Parts, are_whole, paths_in, entries_of, Written, entries_written, MergeFault, merge_index, AreTested, merge_paths, NewIds, AreIdMaps, AreMergedNames, IsListsFault, IsMerged, IsMergeFault, damaged, long, refused, SortedNames, AreTestedNames, AreAllMerged}
-use Rattle.cs_output.specs.declared.output.Sent.{Sent}
+use Rattle.cs_tree.specs.declared.output.Sent.{Sent}
 use Rattle.cs_tree.specs.PathSet as set
 use Rattle.cs_merge.specs.ListsFault.{damaged as lists_damaged, long as lists_long, refused as lists_refused}
 use Rattle.cs_merge.proofs.MergedFilesLemmas.{AreWritten, all_covered, written_merged}

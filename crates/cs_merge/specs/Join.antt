@@ -10,7 +10,7 @@ use Rattle.cs_tree.specs.Cover.{least}
 use Rattle.cs_index.specs.Encoding.{Entry, Files, encoding}
 use Rattle.cs_index.specs.OpenedParts.{Parts, are_whole, files_read}
 use Rattle.cs_index.specs.declared.fault.IndexFault.TheVariants.{BadList}
-use Rattle.cs_output.specs.declared.output.Sent.{Sent}
+use Rattle.cs_tree.specs.declared.output.Sent.{Sent}
 use Rattle.cs_merge.specs.MergeResult.{IsIndexWithin}
 use Rattle.cs_merge.specs.declared.fault.MergeFault.{MergeFault}
 use Rattle.cs_merge.specs.declared.fault.MergeFault.TheVariants.{Unsorted, Index, TooLarge, Memory}

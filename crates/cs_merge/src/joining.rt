@@ -12,8 +12,7 @@ use crate::merging::{begin_least, finish};
 use crate::merging_trigrams::are_valid;
 use crate::stored_part::StoredPart;
 use cs_index::{IndexFault, ListReader, OldIndex, Sections, Texts};
-use cs_output::{Output, Sent};
-use cs_tree::{IoFault, Store};
+use cs_tree::{IoFault, Output, Sent, Store};
 use std::alloc::{AllocError, Global};
 
 /// The maximum number of names of an index.

@@ -10,8 +10,7 @@ use crate::merging_trigrams::{are_valid, next_older};
 use crate::replacing::READ_LEN;
 use crate::stored_part::StoredPart;
 use cs_index::{IndexFault, Postings, Sections};
-use cs_output::Output;
-use cs_tree::{IoFault, Store};
+use cs_tree::{IoFault, Output, Store};
 use std::alloc::AllocError;
 
 /// The trigram after those of all files.

@@ -11,8 +11,7 @@ use crate::merging_names::{SortedNames, merge_names};
 use crate::merging_trigrams::{Sides, are_valid, merge_lists};
 use crate::replacing::{Cover, is_under};
 use cs_index::{BuildFault, Index, NameTable, Sections, Tables, Texts};
-use cs_output::{Output, Sent};
-use cs_tree::{IoFault, MemStore, Store, reduce};
+use cs_tree::{IoFault, MemStore, Output, Sent, Store, reduce};
 use std::alloc::{AllocError, Global};
 
 /// Merges two indexes. At a name that a newer path covers, the newer index takes precedence; other

@@ -9,8 +9,7 @@ use crate::mapped_postings::MappedPostings;
 use crate::merging_lists::{BothLists, BothRuns, lower, merge_list};
 use crate::replacing::{READ_LEN, is_newer_whole_from, is_whole_from};
 use cs_index::{Index, IndexFault, ListReader, Sections, Tables};
-use cs_output::Output;
-use cs_tree::{IoFault, Store};
+use cs_tree::{IoFault, Output, Store};
 use std::alloc::Global;
 
 /// Both indexes, and the id maps of both.

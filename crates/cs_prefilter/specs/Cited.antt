@@ -3,7 +3,7 @@ pub use Rattle.cs_syntax.specs.Matching.{MatchesBranch, MatchesSequence, Matches
 pub use Rattle.cs_syntax.specs.Members.{IsOnly}
 pub use Rattle.cs_syntax.specs.Node.{tree_of}
 pub use Rattle.cs_syntax.specs.NodeList.{trees_of}
-pub use Rattle.cs_prefilter.specs.CountsAtMost.{CountsAtMost}
+pub use Rattle.cs_tree.specs.CountsAtMost.{CountsAtMost}
 pub use Rattle.cs_prefilter.specs.Listed.{IsFull, IsLineStart, IsListFrom, NoNewlineFrom, newline}
 pub use Rattle.cs_prefilter.specs.OffsetWork.{list_work, most_words, offset_work, word_work}
 pub use Rattle.cs_prefilter.specs.Probe.{NoneFrom}

@@ -2,7 +2,6 @@
 pub use Rattle.cs_syntax.specs.Matching
 pub mod WordAt
 pub mod OffsetWork
-pub mod CountsAtMost
 pub mod Listed
 -- Definitions that only private contracts cite.
 pub mod Words

@@ -6,11 +6,11 @@ ghost use Rattle.cs_prefilter.specs.Prefixes.{HavePrefixes, IsPrefixOf, MayFollo
 ghost use Rattle.cs_prefilter.specs.WordAt.{WordAt};
 ghost use Rattle.cs_prefilter.specs.WordBuckets.{AreInBuckets, NoneOfBucket, bucket_work, IsInPart, StartsPart};
 ghost use Rattle.cs_prefilter.specs.OffsetWork.{most_words, most_sets, word_work, candidate_work};
-ghost use Rattle.cs_prefilter.specs.CountsAtMost.{CountsAtMost};
+ghost use Rattle.cs_tree.specs.CountsAtMost.{CountsAtMost};
 
 use crate::probe::ByteTest;
-use crate::steps::Steps;
 use crate::word::Word;
+use cs_tree::Steps;
 use std::alloc::{AllocError, Global};
 
 /// Words, and the prefix of each.

@@ -42,12 +42,10 @@ mod rarity;
 mod required;
 mod runs;
 mod scan;
-mod steps;
 mod word;
 mod words;
 
 pub use listing::Listed;
 pub use prefilter::Prefilter;
 pub use scan::WordStop;
-pub use steps::Steps;
 pub use word::Word;

@@ -6,7 +6,7 @@ ghost use Rattle.cs_prefilter.specs.Cited.{AreFound, IsStop, decided, IsFull, Is
 use crate::comparing::WordList;
 use crate::probe::{Probe, REACH, STRIDE};
 use crate::scan::{MOST_WASTED, WordStop, skip_strides};
-use crate::steps::Steps;
+use cs_tree::Steps;
 use memchr::memchr;
 
 /// The ends of the lines with a word, so many of a list, up to the offset `to`. It is the end of

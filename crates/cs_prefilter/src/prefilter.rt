@@ -10,10 +10,10 @@ use crate::rarity::RARE;
 use crate::required::required;
 use crate::runs::are_all;
 use crate::scan::WordStop;
-use crate::steps::Steps;
 use crate::word::Word;
 use crate::words::{Words, share_of};
 use cs_syntax::{ByteSet, Node};
+use cs_tree::Steps;
 use std::alloc::{AllocError, Global};
 use std::marker::Model;
 
@@ -54,16 +54,16 @@ impl Prefilter {
     pub fn of(alloc: Global, root: &Node) -> Result<Option<Prefilter>, AllocError>
         ensures { IfOk result (λ prefilter. IfSome prefilter (IsPrefilterOf (tree_of root.now))) }
     {
-        let pairs = required(alloc, Kind::Pairs, root)?;
+        let pairs = required(alloc, ProbeKind::Pairs, root)?;
         let has_rare_pairs = share_of(&pairs) < RARE;
         if has_rare_pairs && !are_slow(&pairs) {
-            return Prefilter::by(alloc, root, Kind::Pairs, pairs);
+            return Prefilter::by(alloc, root, ProbeKind::Pairs, pairs);
         }
-        let trigrams = required(alloc, Kind::Trigrams, root)?;
+        let trigrams = required(alloc, ProbeKind::Trigrams, root)?;
         if are_better(&trigrams, &pairs, has_rare_pairs) {
-            return Prefilter::by(alloc, root, Kind::Trigrams, trigrams);
+            return Prefilter::by(alloc, root, ProbeKind::Trigrams, trigrams);
         }
-        Prefilter::by(alloc, root, Kind::Pairs, pairs)
+        Prefilter::by(alloc, root, ProbeKind::Pairs, pairs)
     }
 
     /// A prefilter for these words, if there are any, and if they are rare enough or decide whether
@@ -71,7 +71,7 @@ impl Prefilter {
     fn by(
         alloc: Global,
         root: &Node,
-        kind: Kind,
+        kind: ProbeKind,
         words: Option<Words>,
     ) -> Result<Option<Prefilter>, AllocError>
         ensures required { IfOk result (λ prefilter. (line : List ℕ) → HasWordOf line words →
@@ -137,21 +137,21 @@ impl Prefilter {
 
 /// What words are searched for by.
 #[derive(Clone, Copy, Drop)]
-pub(crate) enum Kind {
+pub(crate) enum ProbeKind {
     /// Two bytes of each of at most two words.
     Pairs,
     /// The first sets of each word.
     Trigrams,
 }
 
-impl Kind {
+impl ProbeKind {
     /// The largest number of words.
     pub(crate) fn most_words(self) -> usize
         ensures { result ≤ most_words }
     {
         match self {
-            Kind::Pairs => 2,
-            Kind::Trigrams => 64,
+            ProbeKind::Pairs => 2,
+            ProbeKind::Trigrams => 64,
         }
     }
 }
@@ -170,13 +170,13 @@ pub(crate) enum WordSearch {
 
 impl WordSearch {
     /// A search of this kind for the words, if they have what it takes.
-    pub(crate) fn of(kind: Kind, words: &[Word]) -> Option<WordSearch>
+    pub(crate) fn of(kind: ProbeKind, words: &[Word]) -> Option<WordSearch>
         requires { length words.now ≤ most_words }
         ensures { IfSome result (λ search. AreFound (Finds search) words.now) }
     {
         match kind {
-            Kind::Pairs => WordSearch::by_pairs(words),
-            Kind::Trigrams => {
+            ProbeKind::Pairs => WordSearch::by_pairs(words),
+            ProbeKind::Trigrams => {
                 let masks = WordMasks::of(words);
                 Some(if masks.low_share(3) < MOST_LOW {
                     WordSearch::LowNibbles(Nibbles { masks })
@@ -321,13 +321,13 @@ impl Word {
 }
 
 /// The search of this kind for the words, if there are any and they have what it takes.
-fn search_of(kind: Kind, words: &Option<Words>) -> Option<WordSearch> {
+fn search_of(kind: ProbeKind, words: &Option<Words>) -> Option<WordSearch> {
     WordSearch::of(kind, &words.as_ref()?.words)
 }
 
 /// Whether the words are searched for by two pairs with masks, which takes longer than low nibbles.
 fn are_slow(words: &Option<Words>) -> bool {
-    let search = search_of(Kind::Pairs, words);
+    let search = search_of(ProbeKind::Pairs, words);
     matches!(search, Some(WordSearch::TwoFoldedPairs(_)))
 }
 
@@ -337,7 +337,7 @@ fn are_better(words: &Option<Words>, pairs: &Option<Words>, has_rare_pairs: bool
     if !has_rare_pairs {
         return share_of(words) < WORTH.min(share_of(pairs));
     }
-    let search = search_of(Kind::Trigrams, words);
+    let search = search_of(ProbeKind::Trigrams, words);
     matches!(search, Some(WordSearch::LowNibbles(_))) && share_of(words) < RARE
 }
 

@@ -1,5 +1,5 @@
 // Frequencies in source text, by which words are ranked. Only speed depends on them.
-use crate::prefilter::Kind;
+use crate::prefilter::ProbeKind;
 use crate::probe::{ByteTest, MASKED};
 use cs_syntax::ByteSet;
 
@@ -206,12 +206,12 @@ fn rarest_tested(run: &[ByteSet], except: Option<usize>) -> Option<(usize, u64)>
 }
 
 /// The part of the run that is the best for this kind of search.
-pub(crate) fn rarest_part(kind: Kind, run: &[ByteSet]) -> Option<Part> {
+pub(crate) fn rarest_part(kind: ProbeKind, run: &[ByteSet]) -> Option<Part> {
     let trigram = rarest_trigram(run);
     match kind {
-        Kind::Trigrams if run.len() < 3 => None,
-        Kind::Trigrams => Some(trigram),
-        Kind::Pairs => {
+        ProbeKind::Trigrams if run.len() < 3 => None,
+        ProbeKind::Trigrams => Some(trigram),
+        ProbeKind::Pairs => {
             let (first, _) = rarest_pair(run)?;
             let is_long = run.len() > MOST_SETS;
             let from = first.saturating_sub(MOST_SETS / 2) * usize::from(is_long);

@@ -3,7 +3,7 @@
 ghost use Rattle.std.specs.Prelude.{ℕ, ◌≤◌, List, IfOk, OnOk, length};
 ghost use Rattle.cs_prefilter.specs.Cited.{MatchesSpan, MatchesSequence, MatchesBranch, tree_of, trees_of, IsLine, HasWordOf, RunEnds, RunsFollow, IsFollowed};
 
-use crate::prefilter::Kind;
+use crate::prefilter::ProbeKind;
 use crate::rarity::MOST_SETS;
 use crate::runs::Runs;
 use crate::words::Words;
@@ -11,7 +11,11 @@ use cs_syntax::Node;
 use std::alloc::{AllocError, Global};
 
 /// The words that every matching line of the tree contains, the best for this kind of search.
-pub(crate) fn required(alloc: Global, kind: Kind, node: &Node) -> Result<Option<Words>, AllocError>
+pub(crate) fn required(
+    alloc: Global,
+    kind: ProbeKind,
+    node: &Node,
+) -> Result<Option<Words>, AllocError>
     ensures { IfOk result (λ words. (line : List ℕ) (i j : ℕ) → IsLine line → i ≤ length line →
         MatchesSpan line (tree_of node.now) i j → HasWordOf line words) }
 {

@@ -6,7 +6,7 @@ ghost use Rattle.cs_syntax.specs.Matching.{member, is_word};
 ghost use Rattle.cs_syntax.specs.Characters.{has_char};
 ghost use Rattle.cs_prefilter.specs.Words.{AreAll};
 
-use crate::prefilter::Kind;
+use crate::prefilter::ProbeKind;
 use crate::rarity::MOST_SETS;
 use crate::words::{Words, share_of};
 use cs_syntax::{ByteSet, CharSet};
@@ -16,7 +16,7 @@ use std::alloc::{AllocError, Global};
 #[derive(Drop)]
 pub(crate) struct Runs {
     pub(crate) alloc: Global,
-    pub(crate) kind: Kind,
+    pub(crate) kind: ProbeKind,
     /// The sets of all runs so far.
     pub(crate) sets: Vec<ByteSet>,
     /// The start of the current run.
@@ -38,7 +38,7 @@ impl Runs {
     ghost use Rattle.cs_prefilter.specs.Words.{RunEndsAt, IsBehind, HasWordOf};
     ghost use Rattle.cs_prefilter.specs.Runs.{RunEnds, EndsAt, RunsFollow, KeepsBest, IsSameRun, MayBeginAnywhere};
 
-    pub(crate) fn new(alloc: Global, kind: Kind) -> Runs
+    pub(crate) fn new(alloc: Global, kind: ProbeKind) -> Runs
         ensures start { result.start ≡ vec_len result.sets }
         ensures sets { result.sets.items ≡ [] }
         ensures anywhere { MayBeginAnywhere result }
@@ -208,7 +208,7 @@ impl Runs {
         ensures best { OnOk result (KeepsBest self.old self.new) }
     {
         match self.kind {
-            Kind::Trigrams if self.sets.len() - self.start == 2 => self.keep_before(
+            ProbeKind::Trigrams if self.sets.len() - self.start == 2 => self.keep_before(
                 &ByteSet::all(),
             ),
             _ => self.keep(),

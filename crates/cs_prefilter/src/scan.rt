@@ -5,7 +5,7 @@ ghost use Rattle.cs_prefilter.specs.Cited.{NoneFrom, AreFound, IsStop, StopsBy, 
 
 use crate::comparing::{WordList, occurs};
 use crate::probe::{Probe, REACH, STRIDE, marks, none_passes};
-use crate::steps::Steps;
+use cs_tree::Steps;
 
 /// How many bytes the DFA scans in the time of a candidate that is no word: so many, and so many
 /// for each word.

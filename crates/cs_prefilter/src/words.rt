@@ -5,7 +5,7 @@ ghost use Rattle.cs_syntax.specs.Matching.{member};
 ghost use Rattle.cs_prefilter.specs.OffsetWork.{most_words};
 ghost use Rattle.cs_prefilter.specs.WordAt.{HasWord};
 
-use crate::prefilter::Kind;
+use crate::prefilter::ProbeKind;
 use crate::rarity::{MOST_SETS, Part, rarest_part};
 use crate::word::Word;
 use cs_syntax::ByteSet;
@@ -34,7 +34,7 @@ impl Words {
     /// `most`.
     pub(crate) fn of_run(
         alloc: Global,
-        kind: Kind,
+        kind: ProbeKind,
         run: &[ByteSet],
         most: u64,
         before: &ByteSet,

@@ -11,11 +11,11 @@ use Rattle.cs_match.specs.Deciding.{Decides}
 use Rattle.cs_tree.specs.TakesPrefix.{EndsAfter, MayEnd}
 use Rattle.cs_tree.specs.ConsumesAtMost.{ConsumesAtMost}
 use Rattle.cs_tree.specs.StreamModels.{SourceModel}
+use Rattle.cs_tree.specs.Transfers.{Consumes}
 use Rattle.cs_tree.specs.Sinks.{SinkModel, GrowsFlushed, HasFlushed, CountsOne}
 use Rattle.cs_tree.specs.Snapshot.{Snapshot}
 use Rattle.cs_tree.proofs.GrowsLemmas.{Grows-same, GrowsFlushed-chain, leaves_flushed}
 use Rattle.cs_tree.proofs.ConsumesLemmas.{Consumes_few}
-use Rattle.cs_search.proofs.InputWorkLemmas.{Consumes-none}
 use Rattle.cs_args.specs.declared.jobs.Tool.{Tool}
 use Rattle.cs_args.specs.declared.jobs.Tool.TheVariants.{Cgrep}
 use Rattle.cs_args.specs.declared.jobs.GrepJob.{GrepJob}
@@ -165,6 +165,11 @@ PrintsFaultsOf-nothing r fault job tree input err is = by_standard job.standard 
         (PrintsFaults-no Cgrep r fault (map string_bytes job.files.items) tree tree err err is refl (Grows-same err))
 
 -- ---- the promise of cgrep
+
+-- nothing is read
+Consumes-none : (model : Option SourceModel) → Consumes model model []
+Consumes-none None = tt
+Consumes-none (Some model) = (refl, refl)
 
 -- an error before anything is searched
 pub grep_unsearched : (job : GrepJob) (tree : Option Snapshot) (failed : ℕ) (input : Option SourceModel) (input_failed : ℕ)

@@ -192,13 +192,11 @@ module _ (Claim : Option Printed → Type 0) (tree : Option Snapshot) (names : L
   abbrev By : Tool → Style → (List ℕ → Bool) → Type 0
   By tool style has_match = Claim (option_map (λ (s : Snapshot). all_printed (file_printed max_searched tool style has_match s) names) tree)
 
-  pub by_csearch : (tool : Tool) (style wanted : Style) (matcher program : Tree) → tool ≡ Csearch → style ≡ wanted → matcher ≡ program →
-      ((has_match : List ℕ → Bool) → Decides has_match matcher → By tool style has_match) →
+  pub by_csearch : (tool : Tool) (style wanted : Style) (program : Tree) → tool ≡ Csearch → style ≡ wanted →
+      ((has_match : List ℕ → Bool) → Decides has_match program → By tool style has_match) →
       (has_match : List ℕ → Bool) → Decides has_match program → By Csearch wanted has_match
-  by_csearch tool style wanted matcher program is_tool is_style is_matcher prints has_match decides =
-      subst (λ t. By t wanted has_match) is_tool
-      (subst (λ t. By tool t has_match) is_style
-      (prints has_match (subst (Decides has_match) (sym is_matcher) decides)))
+  by_csearch tool style wanted program is_tool is_style prints has_match decides =
+      subst (λ t. By t wanted has_match) is_tool (subst (λ t. By tool t has_match) is_style (prints has_match decides))
 
 -- ---- faults of the selected names
 

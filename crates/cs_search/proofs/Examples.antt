@@ -1,15 +1,11 @@
 -- Worked examples of reports.
-use Rattle.std.proofs.Common.{◌≡◌, ℕ, ◌+◌, ◌*◌, Bool, true, false, List, [], ◌∷◌, Some, None, refl, codes, inl, inr}
+use Rattle.std.proofs.Common.{◌≡◌, ℕ, Bool, true, false, List, [], ◌∷◌, Some, None, refl, codes, inl, inr}
 use Rattle.std.specs.Str.{bytes_eq}
 use Rattle.std.specs.Fmt.{digits}
 use Rattle.cs_args.specs.declared.jobs.Style.{Style}
 use Rattle.cs_search.specs.declared.status.ReadFault.{ReadFault}
 use Rattle.cs_search.specs.declared.status.ReadFault.TheVariants.{Read}
 use Rattle.cs_match.specs.Lines.{lines, terminated_lines}
-use Rattle.cs_match.specs.LastPart.{last_part}
-use Rattle.cs_match.specs.Work.{searched_byte_work, line_work}
-use Rattle.cs_syntax.specs.Matching.{Tree}
-use Rattle.cs_search.specs.Work.{searched_work, input_work}
 use Rattle.cs_args.specs.declared.fault.FileFault.TheVariants.{Missing, Denied, InputTooLong}
 use Rattle.cs_search.specs.Printed.{AreFaultsOf, failures_of}
 use Rattle.cs_search.specs.Report.{report, matches_output, matches_from, match_line, name_line, count_line}
@@ -70,11 +66,3 @@ too_long_is_no_failure = refl
 no_name_has_two_faults : AreFaultsOf (codes "a" ∷ []) ((codes "a", Missing) ∷ (codes "a", Denied) ∷ []) → ⊥
 no_name_has_two_faults (inl none) = cc
 no_name_has_two_faults (inr (why, rest, is, may, none)) = cc
-
--- ---- work
-
--- five bytes, and two of them are a line without a newline
-work_of_two_lines : (t : Tree) → input_work t (codes "ab\ncd") ≡
-    5 * (searched_byte_work t + 1) + line_work t 2 + 10 + 1
-unfolding searched_work last_part
-work_of_two_lines t = refl

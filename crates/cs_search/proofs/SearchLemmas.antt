@@ -125,18 +125,16 @@ module _ (job : SearchJob) (index : Option (List ℕ)) (tree : Option Snapshot) 
 -- a search of the selected names that began
 pub searches_selected : (job : SearchJob) (plan : Plan) → IsPlan job plan → (bytes : Option (List ℕ)) (texts : List (String Global)) →
     AreSelected plan bytes texts → (tree : Option Snapshot) (before after : ℕ) (outputs : SearchOutputs) (answer : Result Status ToolFault) →
-    MatchingIsDecidable → (tool : Tool) (style : Style) (matcher : Tree) → tool ≡ Csearch → style ≡ job.style →
-    matcher ≡ plan.program → IsSearchFault answer →
-    ((has_match : List ℕ → Bool) → Decides has_match matcher → PrintsAnswer (option_map (λ (tree : Snapshot). all_printed
+    MatchingIsDecidable → (tool : Tool) (style : Style) → tool ≡ Csearch → style ≡ job.style → IsSearchFault answer →
+    ((has_match : List ℕ → Bool) → Decides has_match plan.program → PrintsAnswer (option_map (λ (tree : Snapshot). all_printed
     (file_printed max_searched tool style has_match tree) (map string_bytes texts)) tree) outputs answer) →
     PrintsFaults tool (map string_bytes texts) before after (λ lines. EndsAfter lines outputs.err outputs.err_then answer) →
     IsSearch IsQueryOf job bytes tree before after outputs answer
-searches_selected job plan is bytes texts selected tree before after outputs answer decidable tool style matcher tool-is style-is matcher-is only
-    printed faulty =
+searches_selected job plan is bytes texts selected tree before after outputs answer decidable tool style tool-is style-is only printed
+    faulty =
     let Claim = λ (printed : Option Printed). PrintsAnswer printed outputs answer in
     let Writes = λ (lines : List ℕ). EndsAfter lines outputs.err outputs.err_then answer in
-    let prints = by_csearch Claim tree (map string_bytes texts) tool style job.style matcher plan.program tool-is style-is matcher-is
-    printed in
+    let prints = by_csearch Claim tree (map string_bytes texts) tool style job.style plan.program tool-is style-is printed in
     let faults = subst (λ (t : Tool). PrintsFaults t (map string_bytes texts) before after Writes) tool-is faulty in
     begun job bytes tree before after outputs plan.query (ready job bytes plan is texts selected) answer only
     (searched job bytes plan is texts selected tree Claim prints)

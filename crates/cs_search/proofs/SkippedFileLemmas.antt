@@ -31,8 +31,8 @@ use Rattle.cs_match.specs.Lines.{newline, lines}
 use Rattle.cs_search.specs.Report.{Report, MatchingLine, matches_from, any_match, name_line, matches_output, report}
 use Rattle.cs_search.specs.InputReport.{input_report}
 use Rattle.cs_search.specs.Printed.{Printed, input_printed, opened_printed, file_printed, all_printed, both_printed}
-use Rattle.cs_search.proofs.MatchOutputLemmas.{kept_fault}
 use Rattle.cs_search.proofs.PrintedInputLemmas.{none_printed, fault_text}
+use Rattle.cs_search.proofs.StyleTotalLemmas.{kept_fault}
 
 -- ---- the lines of a text are substrings of it
 

@@ -1,11 +1,15 @@
 -- The errors of a search of one input: their sources, their conversions, and which of them count as failures.
 use Rattle.std.specs.Prelude.{ℕ, ◌≡◌, Bool, true, false, Option, Some, None, Result, Ok, Err}
+use Rattle.std.specs.declared.alloc.AllocError.{AllocError}
 use Rattle.cs_tree.specs.Failures.{count_if}
 use Rattle.cs_tree.specs.FailureCount.{count_after}
 use Rattle.cs_tree.specs.declared.fault.IoFault.{IoFault}
 use Rattle.cs_tree.specs.declared.fault.IoFault.TheVariants as io
 use Rattle.cs_args.specs.declared.fault.ToolFault.{ToolFault}
 use Rattle.cs_args.specs.declared.fault.ToolFault.TheVariants as tool
+use Rattle.cs_lines.specs.declared.stream.Ended.{Ended}
+use Rattle.cs_lines.specs.declared.stream.Ended.TheVariants.{Whole, Failed, TooLong as Longer}
+use Rattle.cs_lines.specs.declared.stream.Streamed.{Streamed}
 use Rattle.cs_search.specs.declared.status.ReadFault.{ReadFault}
 use Rattle.cs_search.specs.declared.status.ReadFault.TheVariants.{Read, TooLong}
 use Rattle.cs_search.specs.declared.status.GrepFault.{GrepFault}
@@ -21,6 +25,23 @@ write_fault io.Memory = Memory
 abbrev pub searched_fault : GrepFault → ToolFault
 searched_fault Write = tool.Write
 searched_fault Memory = tool.Memory
+
+-- why the reading of a text stopped before its end
+abbrev pub fault_of : Ended → Option ReadFault
+fault_of Whole = None
+fault_of Failed = Some Read
+fault_of Longer = Some TooLong
+
+-- what became of a text that was searched to its end
+abbrev pub streamed_as : Result Bool AllocError → Result Streamed AllocError
+streamed_as (Ok marked) = Ok (record { marked = marked; ended = Whole })
+streamed_as (Err refused) = Err refused
+
+-- the answer of a search: the error of the write that failed, or what became of the text
+abbrev pub answer_of : Option IoFault → Result Streamed AllocError → Result Grepped GrepFault
+answer_of (Some fault) printed = Err (write_fault fault)
+answer_of None (Ok streamed) = Ok (record { matched = streamed.marked; fault = fault_of streamed.ended })
+answer_of None (Err refused) = Err Memory
 
 -- the search stopped because a read failed
 abbrev pub is_failed_read : Option ReadFault → Bool

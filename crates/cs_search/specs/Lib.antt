@@ -29,13 +29,14 @@ pub use Rattle.cs_syntax.specs.Parsing
 pub use Rattle.cs_match.specs.Deciding
 pub use Rattle.cs_match.specs.Lines
 pub use Rattle.cs_match.specs.LastPart
+pub use Rattle.cs_lines.specs.Findings
+pub use Rattle.cs_lines.specs.Work
 pub mod Report
+pub mod Styles
 pub mod InputReport
-pub mod Buffer
 pub mod GrepReports
 pub mod GrepFaults
 pub mod Printed
-pub mod Work
 pub mod Refusals
 pub mod SearchEffects
 pub mod Cgrep
@@ -46,10 +47,8 @@ pub mod SearchedBy
 pub mod StoredSearch
 pub mod SameSearch
 pub mod SearchLaws
+pub mod StyleLaws
 -- Definitions that private contracts cite.
-pub mod TestedLines
-pub mod Progress
-pub mod SearchedWork
 pub mod Searcher
 pub mod Programs
 pub mod IndexSearch

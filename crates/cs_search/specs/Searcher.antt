@@ -2,6 +2,8 @@
 use Rattle.std.specs.Prelude.{ℕ, ◌≡◌, Bool, List, Option, Some, None, option_map, Result, MatchResult}
 use Rattle.cs_syntax.specs.Matching.{Tree}
 use Rattle.cs_match.specs.Deciding.{Decides}
+use Rattle.cs_lines.specs.Findings.{SearchesLines}
+use Rattle.cs_lines.specs.declared.search.LineSearch.{LineSearch}
 use Rattle.cs_tree.specs.StreamModels.{SourceModel}
 use Rattle.cs_tree.specs.Snapshot.{Snapshot}
 use Rattle.cs_tree.specs.Sinks.{SinkModel, Grows, CountsOne}
@@ -16,15 +18,20 @@ use Rattle.cs_search.specs.GrepFaults.{IsSearchFault}
 use Rattle.cs_search.specs.Refusals.{has_write_failed}
 use Rattle.cs_search.specs.Printed.{Printed, input_printed, file_printed, all_printed, PrintsFaults, SearchOutputs}
 
--- a searcher of this tool and style, whose matcher is of this program
-abbrev pub IsSearcherOf : Tool → Style → Tree → Searcher → Type 0
-IsSearcherOf tool style program searcher =
-    (searcher.tool ≡ tool) × (searcher.style ≡ style) × (searcher.matcher.tree ≡ program)
+-- the test decides which lines a search for lines finds
+abbrev pub DecidesLines : (List ℕ → Bool) → LineSearch → Type 0
+DecidesLines has_match search = (tree : Tree) × SearchesLines search tree × Decides has_match tree
+
+-- a searcher of this tool and style, which searches for the lines of this program
+pub record IsSearcherOf (of_tool : Tool) (of_style : Style) (program : Tree) (searcher : Searcher) : Type 0 where
+  pub tool : searcher.tool ≡ of_tool
+  pub style : searcher.style ≡ of_style
+  pub lines : SearchesLines searcher.lines program
 
 pub record IsKept (old new : Searcher) : Type 0 where
   pub tool : new.tool ≡ old.tool
   pub style : new.style ≡ old.style
-  pub matcher : new.matcher.tree ≡ old.matcher.tree
+  pub lines : (tree : Tree) → SearchesLines old.lines tree → SearchesLines new.lines tree
 
 -- this was printed, and `matched` says whether some line matched
 abbrev pub IsPrinted : Printed → Option SinkModel → Option SinkModel → Option SinkModel → Option SinkModel → Bool → Type 0
@@ -56,12 +63,12 @@ module _ (searcher : Searcher) where
       option_map (λ (tree : Snapshot). all_printed (file_printed max_searched searcher.tool searcher.style has_match tree) names) tree
 
   -- Without an error this was printed, and the answer says whether some line matched; else a prefix of it. It is so by each
-  -- test that decides what the searcher's matcher matches.
+  -- test that decides which lines the searcher finds.
   abbrev pub PrintsResult : ((List ℕ → Bool) → Option Printed) → SearchOutputs → Result Bool ToolFault → Type 0
   PrintsResult printed outputs answer = MatchResult answer
-      (λ matched. (has_match : List ℕ → Bool) → Decides has_match searcher.matcher.tree →
+      (λ matched. (has_match : List ℕ → Bool) → DecidesLines has_match searcher.lines →
       Prints (printed has_match) outputs.out outputs.out_then outputs.err outputs.err_then matched)
-      (λ _. (has_match : List ℕ → Bool) → Decides has_match searcher.matcher.tree →
+      (λ _. (has_match : List ℕ → Bool) → DecidesLines has_match searcher.lines →
       PrintsPrefix (printed has_match) outputs.out outputs.out_then outputs.err outputs.err_then)
 
 -- Fault lines of some of the names were printed, or a prefix of them if the call failed.

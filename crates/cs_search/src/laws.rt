@@ -1,5 +1,6 @@
 // Laws of the definitions.
 ghost use Rattle.cs_search.specs.SearchLaws.{SkippedFilesHaveNoMatch, SearchesAgreeWithCgrep, IndexesOfJobsAreWhole, IndexesOfJobsAreAccepted, FirstJobsReadAsIndexed, FirstJobsMeetPremises, UnchangedFilesHaveNoFault, SameSearchesDecideAlike, SameSearchesPrintTheirFiles, SameSearchesPrintAlike, MatchingFilesAreCandidates, CandidatesHaveExactRuns};
+ghost use Rattle.cs_search.specs.StyleLaws.{FaultsAreMarkedAlike, FaultsArePrintedAlike, FaultsHaveNoCount, InputsAreBegun, InputsAreReported, LinesArePrintedAlike, MatchesAreMarked, NamesArePrintedAlike, NothingIsBetween, StreamsAreReported, TextsAreBegun, TextsAreMarkedAlike, TextsArePrintedAlike, TextsAreReported, TotalsArePrintedAlike};
 
 /// If files read as they were indexed, those that a sound query excludes have no matching line:
 /// leaving them out changes nothing that either tool prints.
@@ -46,4 +47,40 @@ pub fn searches_are_those_of_cgrep()
 pub fn candidates_lie_between()
     ensures with_match { MatchingFilesAreCandidates }
     ensures exact_runs { CandidatesHaveExactRuns }
+{}
+
+/// What cs_lines prints of lines by the options of a style is what the style prints: the lines, and
+/// for a text that is read to its end a count or its name; at a fault a name, and no count. A line
+/// is marked if and only if one matches, and nothing is printed between texts.
+pub fn lines_are_printed_alike()
+    ensures lines { LinesArePrintedAlike }
+    ensures totals { TotalsArePrintedAlike }
+    ensures names { NamesArePrintedAlike }
+    ensures no_count { FaultsHaveNoCount }
+    ensures marked { MatchesAreMarked }
+    ensures between { NothingIsBetween }
+{}
+
+/// What cs_lines prints for a text by the options of a style is the output of its report, also of a
+/// text that is read up to a fault.
+pub fn texts_are_printed_alike()
+    ensures texts { TextsArePrintedAlike }
+    ensures marked { TextsAreMarkedAlike }
+    ensures faults { FaultsArePrintedAlike }
+    ensures faults_marked { FaultsAreMarkedAlike }
+{}
+
+/// What cs_lines says of a text that it read block by block, by the options of a style, is what the
+/// report says: its output, its match and its fault.
+pub fn streams_are_reported()
+    ensures { StreamsAreReported }
+{}
+
+/// What `print_input` and `print_text` of cs_lines promise, by the options of a style, is what the
+/// report says; after an error they have printed what begins its output.
+pub fn calls_print_reports()
+    ensures inputs { InputsAreReported }
+    ensures inputs_begun { InputsAreBegun }
+    ensures texts { TextsAreReported }
+    ensures texts_begun { TextsAreBegun }
 {}

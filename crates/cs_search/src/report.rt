@@ -1,15 +1,14 @@
-// Searches of one input, which is read block by block (Go: `Grep` in regexp/match.go).
-ghost use Rattle.std.specs.Prelude.{◌≡◌, ◌<◌, ◌+◌, ◌^◌, length, ◌≤◌, [], IfOk, IsOkUnless};
-ghost use Rattle.cs_search.specs.Cited.{ConsumesAtMost, count_after, last_line, line_work, ReportsBy, max_searched, input_report, CountsBoth, is_grep_failure, has_read_failed, WritesTo, TestsBy, EndsBy, HasCountedNone, IsUnlisted, TakesSteps, input_work, StepsWithin, SearchesLines, ReadsOne, count_if, pending_bytes, StopsHere, Stops, UnlessListed, TestsInputBy, has_stop_failed};
+// Searches of one input, and of a text in memory (Go: `Grep` in regexp/match.go). cs_lines searches
+// and prints, by the options of the style.
+ghost use Rattle.std.specs.Prelude.{◌≡◌, ◌<◌, ◌+◌, ◌^◌, []};
+ghost use Rattle.cs_search.specs.Cited.{ConsumesAtMost, count_after, Tree, SearchesLines, Takes, TakesRead, input_work, line_weight, ReportsBy, max_searched, input_report, CountsBoth, is_grep_failure, has_read_failed, text_report, IsReportedBy, answer_of as answer_of', streamed_as};
 
-use crate::buffer::LineBuffer;
-use crate::line_search::{search_block, search_line};
-use crate::printer::Printer;
-use crate::status::{GrepFault, Grepped, ReadFault, Stop, Tally};
+use crate::status::{GrepFault, Grepped, ReadFault};
+use crate::styles::{Printer, options_of};
 use cs_args::Style;
-use cs_match::Matcher;
-use cs_tree::{IoFault, Sink, Source};
-use std::alloc::Global;
+use cs_lines::{Ended, LineBuffer, LineSearch, Page, Streamed, print_input, print_text};
+use cs_tree::{IoFault, Sink, SinkOutput, Source};
+use std::alloc::{AllocError, Global};
 
 /// The maximum number of bytes of an input that are searched: 2^30.
 pub const MAX_SEARCHED: usize = 1073741824;
@@ -28,18 +27,18 @@ pub fn grep<R: Source, O: Sink>(
     alloc: Global,
     name: &str,
     input: &mut R,
-    matcher: &mut Matcher<'_>,
+    search: &mut LineSearch<'_>,
     style: Style,
     out: &mut O,
 ) -> Result<Grepped, GrepFault>
-    ensures report { ReportsBy matcher.old.tree (R.model input.old) (input_report max_searched style name.now)
-        (O.model out.old) (O.model out.new) result }
+    ensures report { (tree : Tree) → SearchesLines search.old tree → ReportsBy tree (R.model input.old)
+        (input_report max_searched style name.now) (O.model out.old) (O.model out.new) result }
     ensures counts { CountsBoth has_read_failed R.failed O.failed input.old input.new out.old out.new result }
     ensures loses { ConsumesAtMost (max_searched + 1) (R.model input.old) (R.model input.new) }
-    ensures same { matcher.new.tree ≡ matcher.old.tree }
+    ensures same { (tree : Tree) → SearchesLines search.old tree → SearchesLines search.new tree }
     ensures keeps { R.Keeps input.old input.new }
-    ensures work { TakesSteps (max_searched + 1) (input_work matcher.old.tree)
-        (R.model input.old) (R.model input.new) matcher.old matcher.new }
+    ensures work { TakesRead (input_work (line_weight search.old)) [] max_searched
+        (R.model input.old) (R.model input.new) search.old search.new }
 {
     let mut buffer = LineBuffer::new(alloc)?;
     grep_within(
@@ -47,7 +46,7 @@ pub fn grep<R: Source, O: Sink>(
         input,
         MAX_SEARCHED,
         &mut buffer,
-        matcher,
+        search,
         out,
     )
 }
@@ -58,139 +57,80 @@ pub fn grep_within<R: Source, O: Sink>(
     input: &mut R,
     limit: usize,
     buffer: &mut LineBuffer,
-    matcher: &mut Matcher<'_>,
+    search: &mut LineSearch<'_>,
     out: &mut O,
 ) -> Result<Grepped, GrepFault>
     requires { limit < 2 ^ 32 }
-    ensures report { ReportsBy matcher.old.tree (R.model input.old) (input_report limit
-        printer.now.style printer.now.name.now) (O.model out.old) (O.model out.new) result }
+    ensures report { (tree : Tree) → SearchesLines search.old tree → ReportsBy tree (R.model input.old)
+        (input_report limit printer.now.style printer.now.name.now)
+        (O.model out.old) (O.model out.new) result }
     ensures counts { CountsBoth has_read_failed R.failed O.failed input.old input.new out.old out.new result }
     ensures loses { ConsumesAtMost (limit + 1) (R.model input.old) (R.model input.new) }
-    ensures same { matcher.new.tree ≡ matcher.old.tree }
+    ensures same { (tree : Tree) → SearchesLines search.old tree → SearchesLines search.new tree }
     ensures keeps { R.Keeps input.old input.new }
-    ensures work { TakesSteps (limit + 1) (input_work matcher.old.tree)
-        (R.model input.old) (R.model input.new) matcher.old matcher.new }
+    ensures work { TakesRead (input_work (line_weight search.old)) [] limit
+        (R.model input.old) (R.model input.new) search.old search.new }
 {
-    buffer.clear();
-    buffer.left = limit;
-    let mut tally = Tally::new();
-    match search_input(printer, &mut tally, input, buffer, matcher, out)? {
-        Stop::Listed => Ok(Grepped {
-            matched: true,
-            fault: None,
-        }),
-        Stop::Faulted(fault) => Ok(Grepped {
-            matched: tally.matches > 0,
-            fault: Some(fault),
-        }),
-        Stop::End => {
-            end_search(printer, &mut tally, buffer.pending(), matcher, out)?;
-            Ok(Grepped {
-                matched: tally.matches > 0,
-                fault: None,
-            })
-        }
-    }
+    let options = options_of(printer.style);
+    let page = Page {
+        options: &options,
+        name: printer.name,
+        begun: false,
+    };
+    let mut sink = SinkOutput::new(out);
+    let printed = print_input(&page, limit, input, buffer, search, &mut sink);
+    answer_of(sink.fault(), printed)
 }
 
-/// Ends the search of an input: tests the bytes after the last newline, and prints the number of
-/// matching lines.
-pub(crate) fn end_search<O: Sink>(
+/// `grep` of a text in memory, which is neither copied nor limited. The answer has no fault.
+pub fn grep_text<O: Sink>(
     printer: &Printer<'_>,
-    tally: &mut Tally,
-    rest: &[u8],
-    matcher: &mut Matcher<'_>,
+    text: &[u8],
+    search: &mut LineSearch<'_>,
     out: &mut O,
-) -> Result<(), GrepFault>
-    requires { tally.old.lines + 1 < 2 ^ 64 }
-    ensures ends { WritesTo O.model O.failed out.old out.new result (EndsBy matcher.old.tree
-        printer.now.style printer.now.name.now (last_line rest.now) tally.old tally.new) }
-    ensures work { StepsWithin (line_work matcher.old.tree (length rest.now)) matcher.old matcher.new }
+) -> Result<Grepped, GrepFault>
+    ensures report { (tree : Tree) → SearchesLines search.old tree → IsReportedBy tree (λ has_match.
+        text_report printer.now.style printer.now.name.now has_match text.now)
+        (O.model out.old) (O.model out.new) result }
+    ensures failed { O.failed out.new ≡ count_after is_grep_failure result (O.failed out.old) }
+    ensures same { (tree : Tree) → SearchesLines search.old tree → SearchesLines search.new tree }
+    ensures work { Takes (input_work (line_weight search.old) text.now) search.old search.new }
 {
-    search_rest(printer, tally, rest, matcher, out)?;
-    printer.print_total(tally.matches, out)?;
-    Ok(())
+    let options = options_of(printer.style);
+    let page = Page {
+        options: &options,
+        name: printer.name,
+        begun: false,
+    };
+    let mut sink = SinkOutput::new(out);
+    let printed = whole(print_text(&page, text, search, &mut sink));
+    answer_of(sink.fault(), printed)
 }
 
-/// Tests the bytes after the last newline as a line, if there are any.
-fn search_rest<O: Sink>(
-    printer: &Printer<'_>,
-    tally: &mut Tally,
-    rest: &[u8],
-    matcher: &mut Matcher<'_>,
-    out: &mut O,
-) -> Result<(), GrepFault>
-    requires { tally.old.lines + 1 < 2 ^ 64 }
-    ensures tests { WritesTo O.model O.failed out.old out.new result (TestsBy matcher.old.tree
-        printer.now.style printer.now.name.now (last_line rest.now) tally.old tally.new) }
-    ensures work { StepsWithin (line_work matcher.old.tree (length rest.now)) matcher.old matcher.new }
+/// What became of a text that was searched to its end.
+fn whole(marked: Result<bool, AllocError>) -> Result<Streamed, AllocError>
+    ensures { result ≡ streamed_as marked }
 {
-    if rest.is_empty() {
-        return Ok(());
-    }
-    search_line(printer, tally, rest, matcher, out)?;
-    Ok(())
+    let marked = marked?;
+    Ok(Streamed {
+        marked,
+        ended: Ended::Whole,
+    })
 }
 
-/// Searches the lines that end within the bytes that may still be read of an input, and returns
-/// where the reading stopped. The buffer then has the unfinished line. Each read is a step.
-fn search_input<R: Source, O: Sink>(
-    printer: &Printer<'_>,
-    tally: &mut Tally,
-    input: &mut R,
-    buffer: &mut LineBuffer,
-    matcher: &mut Matcher<'_>,
-    out: &mut O,
-) -> Result<Stop, GrepFault>
-    requires bound { buffer.old.left < 2 ^ 32 }
-    requires counted { HasCountedNone tally.old }
-    requires empty { pending_bytes buffer.old ≡ [] }
-    ensures bound { IfOk result (λ stop. UnlessListed stop
-        (tally.new.lines + length (pending_bytes buffer.new) ≤ buffer.old.left)) }
-    ensures stops { IfOk result (λ stop. Stops printer.now.style buffer.old.left stop
-        (R.model input.old) (pending_bytes buffer.new) tally.new.lines) }
-    ensures tests { TestsInputBy matcher.old.tree printer.now.style printer.now.name.now tally.old tally.new
-        (O.model out.old) (O.model out.new) buffer.old.left (R.model input.old) result }
-    ensures unlisted { IfOk result (λ stop. UnlessListed stop (IsUnlisted printer.now.style tally.new)) }
-    ensures same { matcher.new.tree ≡ matcher.old.tree }
-    ensures counts { CountsBoth has_stop_failed R.failed O.failed input.old input.new out.old out.new result }
-    ensures keeps { R.Keeps input.old input.new }
-    ensures work { SearchesLines (pending_bytes buffer.new) result (buffer.old.left + 1)
-        (R.model input.old) (R.model input.new) matcher.old matcher.new }
+/// The answer of a search, given why a write has failed, if one has.
+fn answer_of(
+    fault: Option<IoFault>,
+    printed: Result<Streamed, AllocError>,
+) -> Result<Grepped, GrepFault>
+    ensures { result ≡ answer_of' fault printed }
 {
-    'pieces: while buffer.left > 0 {
-        let scanned = buffer.pending().len();
-        matcher.add_steps(1);
-        match buffer.fill(input) {
-            Ok(0) => return Ok(Stop::End),
-            Ok(_) => {}
-            Err(IoFault::Failed) => return Ok(Stop::Faulted(ReadFault::Read)),
-            Err(IoFault::Memory) => return Err(GrepFault::Memory),
-        }
-        let Some(start) = search_block(printer, tally, buffer.pending(), scanned, matcher, out)?
-        else {
-            return Ok(Stop::Listed);
-        };
-        buffer.skip(start);
+    if let Some(fault) = fault {
+        return Err(GrepFault::from(fault));
     }
-    matcher.add_steps(1);
-    let stop = probe_end(input)?;
-    Ok(stop)
-}
-
-/// Reads one byte more, to learn whether the input ends at the limit.
-fn probe_end<R: Source>(input: &mut R) -> Result<Stop, GrepFault>
-    ensures stop { IfOk result (λ stop. StopsHere stop (R.model input.old)) }
-    ensures refused { IsOkUnless result GrepFault.Memory }
-    ensures failed { R.failed input.new ≡ count_if (has_stop_failed result) (R.failed input.old) }
-    ensures keeps { R.Keeps input.old input.new }
-    ensures read { ReadsOne result (R.model input.old) (R.model input.new) }
-{
-    let mut next = [0u8; 1];
-    match input.read(&mut next) {
-        Ok(0) => Ok(Stop::End),
-        Ok(_) => Ok(Stop::Faulted(ReadFault::TooLong)),
-        Err(IoFault::Failed) => Ok(Stop::Faulted(ReadFault::Read)),
-        Err(IoFault::Memory) => Err(GrepFault::Memory),
-    }
+    let streamed = printed?;
+    Ok(Grepped {
+        matched: streamed.marked,
+        fault: ReadFault::of(streamed.ended),
+    })
 }

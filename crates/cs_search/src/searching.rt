@@ -4,11 +4,11 @@ ghost use Rattle.cs_search.specs.Cited.{GrowsFlushed, ConsumesAtMost, EndsAfter,
 ghost use Rattle.cs_args.specs.declared.fault.FileFault.TheVariants.{Failed, InputTooLong};
 ghost use Rattle.cs_search.specs.declared.status.ReadFault.TheVariants.{Read, TooLong};
 
-use crate::buffer::LineBuffer;
-use crate::printer::Printer;
 use crate::report::{MAX_SEARCHED, grep_within};
 use crate::status::{ReadFault, Status};
+use crate::styles::Printer;
 use cs_args::{FileFault, GrepJob, Style, Tool, ToolFault, fault_line};
+use cs_lines::{LineBuffer, LineSearch};
 use cs_match::{Matcher, Program};
 use cs_syntax::parse;
 use cs_tree::{Sink, Source, Tree, TreeReader, write_all};
@@ -26,12 +26,12 @@ impl Drop for Compiled {
     }
 }
 
-/// A tool's matcher and read buffer, reused for one input after another.
+/// A tool's search for lines and read buffer, reused for one input after another.
 pub(crate) struct Searcher<'p> {
     alloc: Global,
     tool: Tool,
     style: Style,
-    matcher: Matcher<'p>,
+    lines: LineSearch<'p>,
     buffer: LineBuffer,
 }
 
@@ -42,7 +42,7 @@ impl Drop for Searcher<'_> {
             alloc: _alloc,
             tool: _tool,
             style: _style,
-            matcher: _matcher,
+            lines: _lines,
             buffer: _buffer,
         } = self;
     }
@@ -65,7 +65,7 @@ impl<'p> Searcher<'p> {
             alloc,
             tool,
             style,
-            matcher,
+            lines: LineSearch::of_lines(matcher),
             buffer,
         })
     }
@@ -97,7 +97,7 @@ impl<'p> Searcher<'p> {
             input,
             MAX_SEARCHED,
             &mut self.buffer,
-            &mut self.matcher,
+            &mut self.lines,
             out,
         )?;
         if let Some(fault) = answer.fault {

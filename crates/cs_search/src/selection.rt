@@ -4,10 +4,10 @@ ghost use Rattle.std.specs.Result.{IsOkAnd};
 ghost use Rattle.cs_search.specs.Cited.{KeepsStore, Parts, StandsIn, IfStands, AreKept, DecidesNames, matcher_tree, IsFileProgram, FileRefused, file_pattern_fault, HasSelected, Selects, SelectsMore, file_text};
 
 use crate::name_block::{push_matching, read_block};
-use crate::status::newlines;
 use crate::stored::Plan;
 use cs_args::{SearchJob, ToolFault};
 use cs_index::{IndexFault, NameReader, StoredIndex};
+use cs_lines::line_count;
 use cs_match::{Matcher, Program};
 use cs_syntax::{PatternError, PatternFault, parse};
 use cs_tree::{IoFault, Store};
@@ -95,7 +95,7 @@ impl<'p> Selection<'p> {
             Ok(block) => block,
             Err(fault) => return Ok(Err(fault)),
         };
-        if newlines(&block, matcher) != ids.len() as u64 {
+        if line_count(&block) != ids.len() {
             return self.read_each(alloc, store, ids);
         }
         let answer = push_matching(alloc, matcher, &block, &mut self.names)?;

@@ -1,11 +1,8 @@
-// What a search answers and counts: its status, the result of one input, its errors, and where it
-// stops.
-ghost use Rattle.std.specs.Prelude.{◌≡◌, if◌then◌else◌, ◌≤◌, ◌<◌, ◌+◌, ◌^◌, length};
-ghost use Rattle.cs_match.specs.Lines.{terminated_lines};
-ghost use Rattle.cs_match.specs.Automaton.{after_steps};
+// What a search answers: its status, the result of one input, and its errors.
+ghost use Rattle.std.specs.Prelude.{◌≡◌, if◌then◌else◌};
 
 use cs_args::ToolFault;
-use cs_match::Matcher;
+use cs_lines::Ended;
 use cs_tree::IoFault;
 use std::alloc::AllocError;
 use thiserror::Error;
@@ -42,17 +39,6 @@ pub struct Grepped {
     pub fault: Option<ReadFault>,
 }
 
-/// Where the reading of an input stops.
-#[derive(Clone, Copy, Drop)]
-pub(crate) enum Stop {
-    /// At the first matching line, under `-l`.
-    Listed,
-    /// At its end.
-    End,
-    /// Before its end, for this reason.
-    Faulted(ReadFault),
-}
-
 /// Why a search stops before the end of its input.
 #[derive(Clone, Copy, Debug, PartialEq, Eq, Drop, Error)]
 pub enum ReadFault {
@@ -62,6 +48,22 @@ pub enum ReadFault {
     /// The input has more than `MAX_SEARCHED` bytes, or more than the limit of the caller.
     #[error("the input is too long")]
     TooLong,
+}
+
+impl ReadFault {
+    ghost use Rattle.std.specs.Prelude.{Option};
+    ghost use Rattle.cs_search.specs.GrepFaults.{fault_of};
+
+    /// Why the search of an input stopped that was read so far.
+    pub(crate) fn of(ended: Ended) -> Option<ReadFault>
+        ensures { result ≡ fault_of ended }
+    {
+        match ended {
+            Ended::Whole => None,
+            Ended::Failed => Some(ReadFault::Read),
+            Ended::TooLong => Some(ReadFault::TooLong),
+        }
+    }
 }
 
 /// Why a search of an input fails.
@@ -110,68 +112,4 @@ impl From<GrepFault> for ToolFault {
             GrepFault::Memory => ToolFault::Memory,
         }
     }
-}
-
-/// The number of tested lines, and of the matching ones. If no number is printed, lines without a
-/// match are not counted.
-#[derive(Drop)]
-pub(crate) struct Tally {
-    pub(crate) lines: u64,
-    pub(crate) matches: u64,
-    ghost bound: { matches ≤ lines },
-}
-
-impl Tally {
-    ghost use Rattle.cs_search.specs.TestedLines.{HasCountedNone};
-
-    pub(crate) fn new() -> Tally
-        ensures { HasCountedNone result }
-    {
-        Tally {
-            lines: 0,
-            matches: 0,
-        }
-    }
-
-    /// Counts the next line, which matches.
-    pub(crate) fn add_match(&mut self)
-        requires { self.old.lines + 1 < 2 ^ 64 }
-        ensures lines { self.new.lines ≡ self.old.lines + 1 }
-        ensures matches { self.new.matches ≡ self.old.matches + 1 }
-    {
-        self.lines += 1;
-        self.matches += 1;
-    }
-}
-
-// The number of newlines in this many bytes fits in one byte, so the count vectorizes with lanes of
-// one byte.
-const PART: usize = 240;
-
-/// The number of newlines in the block; each ends a line. Each byte is a step.
-pub(crate) fn newlines(block: &[u8], matcher: &mut Matcher<'_>) -> u64
-    ensures exact { result ≡ length (terminated_lines block.now) }
-    ensures work { matcher.new ≡ after_steps (length block.now) matcher.old }
-{
-    matcher.add_steps(block.len());
-    let mut count = 0u64;
-    let mut rest = block;
-    'parts: while rest.len() > PART {
-        let (part, more) = rest.split_at(PART);
-        count += u64::from(count_newlines(part));
-        rest = more;
-    }
-    count + u64::from(count_newlines(rest))
-}
-
-/// The number of newlines in a part.
-fn count_newlines(part: &[u8]) -> u8
-    requires { length part.now ≤ PART }
-    ensures { result ≡ length (terminated_lines part.now) }
-{
-    let mut count = 0u8;
-    for b in part {
-        count += u8::from(*b == b'\n');
-    }
-    count
 }

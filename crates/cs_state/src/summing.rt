@@ -4,7 +4,7 @@ ghost use Rattle.cs_state.specs.Cited.{sums_of, IsSummed, IsSummedIfWhole, bytes
 
 use crate::summed_output::SummedOutput;
 use crate::sums::{PIECE_LEN, sum_bytes};
-use cs_output::Output;
+use cs_tree::Output;
 use std::alloc::{AllocError, Global};
 
 impl<O: Output> SummedOutput<O> {

@@ -6,8 +6,7 @@ ghost use Rattle.cs_state.specs.Cited.{Known, other_of, body_of, eight_bytes, st
 use crate::others::Unindexed;
 use crate::state_writer::StateWriter;
 use crate::summed_output::SummedOutput;
-use cs_output::Output;
-use cs_tree::Stamp;
+use cs_tree::{Output, Stamp};
 use std::alloc::AllocError;
 
 const STAMP_LEN: u64 = 40;

@@ -4,8 +4,7 @@ ghost use Rattle.cs_storage.specs.Rights.{IsKeptMode};
 
 use crate::folder::{IndexFolder, StorageFault};
 use crate::index_paths::{IndexPaths, folder_of};
-use cs_output::Sent;
-use cs_tree::{DiskStore, IoFault, Store};
+use cs_tree::{DiskStore, IoFault, Sent, Store};
 use std::fs::{self, File, Metadata, Permissions, TryLockError};
 use std::io::{self, ErrorKind, Read, Write};
 use std::os::unix::fs::{MetadataExt, OpenOptionsExt, PermissionsExt, fchown};

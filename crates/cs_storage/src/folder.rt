@@ -6,8 +6,7 @@ ghost use Rattle.cs_storage.specs.Storing.{Folder, Moves, Looks, Claims, Compare
 ghost use Rattle.cs_storage.specs.declared.folder.StorageFault.TheVariants.{Memory};
 ghost use Rattle.cs_storage.specs.NewFiles.{folder_filled, reference_filled, FillsOn};
 
-use cs_output::Output;
-use cs_tree::{Store, TreeFault};
+use cs_tree::{Output, Store, TreeFault};
 use std::alloc::{AllocError, AllocFailed};
 use std::io::{self, ErrorKind};
 

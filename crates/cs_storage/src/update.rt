@@ -5,7 +5,7 @@ ghost use Rattle.cs_storage.specs.Storing.{Moves, IsHeld, Begins, Updates};
 ghost use Rattle.cs_storage.specs.Steps.{Replaces, RenamesSynced};
 
 use crate::folder::{IndexFolder, StorageFault};
-use cs_output::Sent;
+use cs_tree::Sent;
 
 /// The update of the index file.
 #[derive(Drop)]

@@ -6,6 +6,7 @@ use crate::fixtures::{PLAIN, program_of, tree_of};
 use cs_args::{Style, ToolFault};
 use cs_fakes::{FuseTree, MemTree, ONE_FILE, strings};
 use cs_index::{Index, Postings, Sections};
+use cs_lines::LineSearch;
 use cs_match::Matcher;
 use cs_search::{GrepFault, grep};
 use cs_syntax::{CharSet, Node, Pattern, parse};
@@ -68,21 +69,22 @@ fn match_count(matcher: &mut Matcher<'_>, lines: &[u8]) -> u32 {
 /// Whether some line matches, and prints or counts those that do.
 fn prints(
     alloc: Global,
-    matcher: &mut Matcher<'_>,
+    search: &mut LineSearch<'_>,
     lines: &[u8],
     style: Style,
 ) -> Result<bool, GrepFault> {
     let mut input = MemSource::new(lines, 1000, false);
     let mut out = StdSink::new(Void);
-    Ok(grep(alloc, "t", &mut input, matcher, style, &mut out)?.matched)
+    Ok(grep(alloc, "t", &mut input, search, style, &mut out)?.matched)
 }
 
 /// The number of matching lines of the pattern, which are also printed, and counted.
 fn found(alloc: Global, pattern: &str, lines: &[u8]) -> Result<u32, ToolFault> {
     let program = program_of(alloc, pattern)?;
-    let mut matcher = Matcher::new(alloc, &program)?;
-    let _printed = prints(alloc, &mut matcher, lines, PLAIN)?;
-    let _counted = prints(alloc, &mut matcher, lines, COUNT)?;
+    let mut search = LineSearch::of_lines(Matcher::new(alloc, &program)?);
+    let _printed = prints(alloc, &mut search, lines, PLAIN)?;
+    let _counted = prints(alloc, &mut search, lines, COUNT)?;
+    let mut matcher = search.into_matcher();
     Ok(match_count(&mut matcher, lines))
 }
 

@@ -2,7 +2,7 @@
 ghost use Rattle.std.specs.Prelude.{◌≡◌, ◌≤◌, ◌<◌, ◌-◌, ◌^◌, [], IfOk, length};
 
 use crate::fault::UpdateFault;
-use cs_output::Output;
+use cs_tree::Output;
 use std::alloc::AllocError;
 
 /// An output, and how many bytes it was given at most. After an append that failed the greatest

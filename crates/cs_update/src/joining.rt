@@ -11,9 +11,8 @@ use crate::others::write_others;
 use crate::state_parts::{StateBody, StateParts};
 use crate::writing::has_numbers;
 use cs_merge::{StoredPart, join_stored};
-use cs_output::Output;
 use cs_state::{OtherReader, StampReader, StateFile, SummedBytes, SummedOutput};
-use cs_tree::Store;
+use cs_tree::{Output, Store};
 use std::alloc::Global;
 
 impl<S: Store + Drop> StateParts<S> {

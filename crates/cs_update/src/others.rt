@@ -8,9 +8,8 @@ ghost use Rattle.cs_tree.specs.declared.tree.Stamp.{Stamp};
 use crate::fault::UpdateFault;
 use crate::new_state::NewState;
 use crate::writing::has_numbers;
-use cs_output::Output;
 use cs_state::{OtherFile, OtherReader};
-use cs_tree::{Store, is_covered};
+use cs_tree::{Output, Store, is_covered};
 use std::alloc::{AllocError, Global};
 
 impl<O: Output> NewState<O> {

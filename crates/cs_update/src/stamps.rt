@@ -11,8 +11,7 @@ use crate::old_texts::OldTexts;
 use crate::own_texts::OwnTexts;
 use crate::writing::has_numbers;
 use cs_index::NameTable;
-use cs_output::Output;
-use cs_tree::{Stamp, Store, is_covered};
+use cs_tree::{Output, Stamp, Store, is_covered};
 use std::alloc::{AllocError, Global};
 
 impl<'a> OwnTexts<'a> {

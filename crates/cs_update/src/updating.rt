@@ -16,9 +16,8 @@ use crate::own_texts::OwnTexts;
 use crate::stamps::write_stamps;
 use cs_index::{BuildFault, Index, OldIndex, Tables};
 use cs_merge::merge_stored;
-use cs_output::Output;
 use cs_state::{FirstBytes, OtherReader, StampReader, StateFile, SummedBytes, SummedOutput};
-use cs_tree::{Look, Store};
+use cs_tree::{Look, Output, Store};
 use std::alloc::{AllocError, Global};
 
 /// Gives an output the first state of a project: what the run learns of its files.

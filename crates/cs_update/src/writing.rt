@@ -6,9 +6,8 @@ ghost use Rattle.std.specs.List.{AllByRecursion};
 
 use crate::fault::UpdateFault;
 use crate::new_state::NewState;
-use cs_output::Output;
 use cs_state::{OtherFile, StateWriter, SummedOutput};
-use cs_tree::Stamp;
+use cs_tree::{Output, Stamp};
 use std::alloc::AllocError;
 
 const STAMP_LEN: u64 = 40;

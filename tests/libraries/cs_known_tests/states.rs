@@ -1,9 +1,8 @@
 // A state that is written, opened, and asked for the files of a walk.
 use cs_index::Builder;
 use cs_known::{FileLookup, SkipOptions, StoredFiles};
-use cs_output::Output;
 use cs_state::{StateFile, StateWriter, SummedOutput, Unindexed};
-use cs_tree::{MemStore, Stamp};
+use cs_tree::{MemStore, Output, Stamp};
 use cs_trigram::Query;
 use std::alloc::Global;
 use std::test::Fail;

@@ -3,8 +3,7 @@
 use cs_fakes::{ChangingStore, Files, ONE_FILE, UNSORTED, changed, index_of, one_file_until};
 use cs_index::{Index, IndexFault, OldIndex};
 use cs_merge::{MergeFault, is_replaced, is_whole_stored, merge, merge_stored};
-use cs_output::Sent;
-use cs_tree::{IoFault, MemStore, Store, reduce};
+use cs_tree::{IoFault, MemStore, Sent, Store, reduce};
 use std::alloc::Global;
 use std::test::Fail;
 

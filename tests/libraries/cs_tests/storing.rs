@@ -1,7 +1,7 @@
 // The update of an index file in memory, with crashes and other runs.
 use cs_fakes::{MemFolder, MemLeft};
-use cs_output::{Output, Sent};
 use cs_storage::{IndexFolder, IndexUpdate, NewFile, begin_update, finish_update};
+use cs_tree::{Output, Sent};
 use std::alloc::{AllocError, Global};
 use std::test::Fail;
 

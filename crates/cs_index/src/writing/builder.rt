@@ -6,7 +6,7 @@ use crate::fault::BuildFault;
 use crate::writing::buckets::{Bucket, empty_buckets, pop_file, push_file, write_buckets};
 use crate::writing::sections::Sections;
 use crate::writing::strings::{Strings, are_index_paths, is_text, strings_of};
-use cs_output::{Output, Sent};
+use cs_tree::{Output, Sent};
 use std::alloc::Global;
 use std::marker::Model;
 

@@ -6,7 +6,7 @@ ghost use Rattle.cs_index.specs.Cited.{AscendWithin, deltas_from, max_ids, next_
 use crate::fault::BuildFault;
 use crate::format::{MAGIC, TRAILER_LEN, TRAILER_MAGIC};
 use crate::writing::strings::{Strings, push_deltas, push_varint, write_entry, write_numbers};
-use cs_output::{Output, Sent};
+use cs_tree::{Output, Sent};
 use std::alloc::{AllocError, Global};
 use std::marker::Model;
 

@@ -7,7 +7,7 @@ use crate::encoded_run::EncodedRun;
 use crate::fault::BuildFault;
 use crate::writing::output::{SendBuffer, WrittenList, append_tables, write_prefix};
 use crate::writing::strings::{Strings, are_index_paths, encode_varint, strings_of};
-use cs_output::{Output, Sent};
+use cs_tree::{Output, Sent};
 use std::alloc::{AllocError, Global};
 use std::marker::Model;
 

@@ -8,7 +8,7 @@ use crate::dfa::{LazyDfa, StateCache};
 use crate::listing::Lister;
 use crate::pacing::Pacing;
 use crate::program::Program;
-use cs_prefilter::Steps;
+use cs_tree::Steps;
 use std::alloc::{AllocError, Global};
 
 /// The cached states of a matcher, its counters and the steps that it has taken.

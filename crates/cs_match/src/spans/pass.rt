@@ -10,8 +10,8 @@ use crate::position::Input;
 use crate::position_set::PositionSet;
 use crate::program::Program;
 use crate::state::LookAround;
-use cs_prefilter::Steps;
 use cs_syntax::Unfinished;
+use cs_tree::Steps;
 
 /// A pass over a part of a line.
 #[derive(Drop)]

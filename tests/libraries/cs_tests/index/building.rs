@@ -2,7 +2,7 @@
 // `tests/runs/library_rows.py` has indexes of texts.
 use cs_fakes::{builder_of, strings};
 use cs_index::{BuildFault, Builder};
-use cs_output::Output;
+use cs_tree::Output;
 use std::alloc::{AllocError, Global};
 use std::str::from_utf8;
 use std::test::Fail;

@@ -1,6 +1,7 @@
 // Searches with small limits and small buffers.
 use crate::fixtures::{PLAIN, program_of};
 use cs_args::{Style, ToolFault};
+use cs_lines::LineSearch;
 use cs_match::{Matcher, Program};
 use cs_search::{GrepFault, Grepped, LineBuffer, Printer, ReadFault, grep, grep_within};
 use cs_tree::{MemSink, MemSource, Source};
@@ -28,7 +29,7 @@ struct Sizes {
 /// The answer of a search of the first `most` bytes, with a buffer of initially `size` bytes.
 fn answer_by<R: Source>(
     alloc: Global,
-    matcher: &mut Matcher<'_>,
+    search: &mut LineSearch<'_>,
     input: &mut R,
     most: usize,
     size: usize,
@@ -37,10 +38,10 @@ fn answer_by<R: Source>(
 ) -> Result<Grepped, GrepFault> {
     let mut buffer = LineBuffer::of_size(alloc, size.max(1))?;
     let form = Printer { name: "t", style };
-    grep_within(&form, input, most.min(1000), &mut buffer, matcher, out)
+    grep_within(&form, input, most.min(1000), &mut buffer, search, out)
 }
 
-/// The same with a matcher of the program.
+/// The same with a search for the lines of the program.
 pub fn answer_within<R: Source>(
     alloc: Global,
     program: &Program,
@@ -50,8 +51,8 @@ pub fn answer_within<R: Source>(
     style: Style,
     out: &mut MemSink,
 ) -> Result<Grepped, GrepFault> {
-    let mut matcher = Matcher::new(alloc, program)?;
-    answer_by(alloc, &mut matcher, input, most, size, style, out)
+    let mut search = LineSearch::of_lines(Matcher::new(alloc, program)?);
+    answer_by(alloc, &mut search, input, most, size, style, out)
 }
 
 /// A pattern, the input, the style, and what is wanted.
@@ -276,8 +277,8 @@ fn listed(
     input: &mut MemSource<'_>,
     out: &mut MemSink,
 ) -> Result<Grepped, GrepFault> {
-    let mut matcher = Matcher::new(alloc, program)?;
-    grep(alloc, "t", input, &mut matcher, LIST, out)
+    let mut search = LineSearch::of_lines(Matcher::new(alloc, program)?);
+    grep(alloc, "t", input, &mut search, LIST, out)
 }
 
 /// Whether the input is read only up to the block of the first match.

@@ -3,7 +3,7 @@ use Rattle.std.specs.Prelude.{string_bytes}
 use Rattle.std.specs.List.{filter_map}
 use Rattle.std.proofs.lemmas.Result.{err_from_is_err_and}
 use Rattle.cs_listing.specs.Models.{chosen_in}
-use Rattle.cs_lines.specs.declared.words.WordItem.{WordItem}
+use Rattle.cs_command.specs.declared.words.WordItem.{WordItem}
 use Rattle.cs_command.specs.Choices.{ChoosesAll, choice_in, IsChoiceIn}
 use Rattle.cs_command.proofs.ChoiceLemmas.{no_choice, next_choice, type_in_first, type_in_more}
 use Rattle.cs_command.proofs.choosing.choose_names.Goals as goal

@@ -1,134 +1,328 @@
-use Rattle.std.proofs.Common.{◌≡◌, ◌≤◌, ◌+◌, ◌++◌, [], ℕ, Bool, List, true, Option, None, Some, length, take, refl, sym, ap, subst, ◌∙◌, arith, append_assoc, append-nil, length-append}
+use Rattle.std.proofs.Common.{◌≡◌, ◌≤◌, ◌+◌, ◌-◌, ◌++◌, [], ℕ, Bool, List, Option, length, take, refl, sym, ap, subst, ◌∙◌, arith, append_assoc, append-nil, length-append}
 use Rattle.std.specs.List.{count_by}
-use Rattle.std.proofs.lemmas.Bool.{false≢true}
-use Rattle.std.proofs.lemmas.Bool.Decides.{nat_tests}
 use Rattle.std.proofs.lemmas.List.{nil_from_length, take_at}
-use Rattle.cs_match.specs.LastPart.{last_line}
+use Rattle.cs_match.specs.LastPart.{last_line, last_part}
+use Rattle.cs_match.specs.Lines.{lines, terminated_lines}
 use Rattle.cs_match.specs.NoNewline.{HasNoNewline}
-use Rattle.cs_lines.specs.Counts.{CountsWindow, is_enough}
-use Rattle.cs_lines.specs.Findings.{Finding, KeepsSearch, Tests}
-use Rattle.cs_lines.specs.Shown.{at_most, is_wanted, wanted_count}
-use Rattle.cs_lines.specs.Streams.{is_whole}
-use Rattle.cs_lines.specs.declared.form.ShowOptions.{ShowOptions}
-use Rattle.cs_lines.specs.declared.search.LineSearch.{LineSearch}
-use Rattle.cs_lines.proofs.FindingLemmas.{tests_same, keeps_again, keeps_itself}
-use Rattle.cs_lines.proofs.StreamLemmas.{carries_here, carries_on, carries_end, carries_any, lines_part}
+use Rattle.cs_match.proofs.LinesLemmas.{HasNoNewline-last_part, last_part-append, lines_within, lines-split, terminated_lines-append}
+use Rattle.cs_tree.specs.StreamModels.{ends}
+use Rattle.cs_tree.specs.Transfers.{Consumes}
+use Rattle.cs_lines.specs.Buffer.{pending_bytes}
+use Rattle.cs_lines.specs.Counts.{IsCount, ended_by}
+use Rattle.cs_lines.specs.Findings.{Finding, Tests}
+use Rattle.cs_lines.specs.Shown.{is_wanted, wanted_of}
+use Rattle.cs_lines.specs.Streamed.{read_lines}
+use Rattle.cs_lines.specs.declared.stream.Ended.TheVariants.{Whole}
+use Rattle.cs_lines.proofs.CountLemmas.{count_append, count_both, count_enough, enough_more, ended_enough, ended_few, ended_whole, few_enough, is_count}
+use Rattle.cs_lines.proofs.FindingLemmas.{keeps_again, keeps_itself, tests_same}
+use Rattle.cs_match.specs.Automaton.{Automaton}
+use Rattle.cs_match.specs.Work.{WorksWithin}
+use Rattle.cs_lines.specs.Work.{input_work, line_weight, line_work, pending_work, searched_work}
+use Rattle.cs_lines.proofs.ReadLemmas.{more_read, nothing_read, read_cut, read_ended, read_more, read_part, read_to, refused_read, some_read}
+use Rattle.cs_lines.proofs.WorkLemmas.{all_work, block_done, done_work, input_done, input_past, read_done, same_weight, works_fewer, works_more}
 use Rattle.cs_lines.proofs.counting.stream_count.Goals as goal
 
-enough : (most : Option ℕ) (count more : ℕ) → is_enough most count ≡ true → at_most most count ≡ at_most most (count + more)
-enough None count more e = absurd (false≢true e)
-enough (Some most) count more e = grind (arith, nat_tests, e)
+none_of : terminated_lines [] ≡ []
+unfolding terminated_lines
+none_of = refl
 
 pub pieces-init : goal.pieces-init
-pieces-init g c = record {
-  within = omega arith;
-  part = tt;
-  room = omega (arith, c.requires.room);
-  lines = carries_here (g.R.Source.model c.args.input.now)
-      (λ all rest. (finding : Finding) → Tests finding.has_match c.args.search.now →
-      wanted_count c.args.options.now finding (c.args.window.now.text.items ++ all) ≡ 0 + wanted_count c.args.options.now finding (c.args.window.now.text.items ++ rest))
-      (λ bytes finding tests. omega arith);
-  failed = refl;
-  same = keeps_itself c.args.search.now;
-  keeps = g.met.R.Source.keeps_refl c.args.input.now;
-}
+pieces-init g c =
+    let first = pending_bytes c.args.buffer.now in
+    let model = g.R.Source.model c.args.input.now in
+    record {
+      read = [];
+      counted = [];
+      consumed = nothing_read model;
+      size = omega arith;
+      ended = c.requires.ended;
+      within = omega arith;
+      part = tt;
+      room = omega arith;
+      lines = ap terminated_lines (append-nil first);
+      last = ap last_part (append-nil first);
+      count = λ finding tests. is_count c.args.most 0 0 refl;
+      failed = refl;
+      same = keeps_itself c.args.search.now;
+      budget = refl;
+      work = (omega arith, omega (arith, length-append first []));
+      fewer = omega (arith, length-append first []);
+      keeps = g.met.R.Source.keeps_refl c.args.input.now;
+    }
 
--- the lines that are wanted, after so many of them were counted
-abbrev Counts : ShowOptions → LineSearch → List ℕ → ℕ → List ℕ → List ℕ → List ℕ → Type 0
-Counts options search first count text all rest = (finding : Finding) → Tests finding.has_match search →
-    wanted_count options finding (first ++ all) ≡ count + wanted_count options finding (text ++ rest)
+-- some lines more
+counted_on : (most : Option ℕ) (wanted : List ℕ → Bool) (count n : ℕ) (all counted new : List (List ℕ)) → all ≡ counted ++ new →
+    IsCount most count (count_by wanted counted) → IsCount most n (count_by wanted new) → IsCount most (count + n) (count_by wanted all)
+counted_on most wanted count n all counted new is a b =
+    subst (IsCount most (count + n)) (sym (ap (count_by wanted) is ∙ count_append wanted counted new))
+    (count_both most count (count_by wanted counted) n (count_by wanted new) a b)
 
-counted : (options : ShowOptions) (search0 search1 : LineSearch) (first : List ℕ) (count more : ℕ) (text text' : List ℕ) → KeepsSearch search0 search1 →
-    CountsWindow options search1 text text' more → (all rest : List ℕ) → Counts options search0 first count text all rest →
-    Counts options search0 first (count + more) text' all rest
-counted options search0 search1 first count more text text' kept window all rest h finding tests =
-    omega (arith, h finding tests, window.counted finding rest (tests_same search0 search1 kept finding.has_match tests))
-
-more_read : (options : ShowOptions) (search : LineSearch) (first : List ℕ) (count : ℕ) (text bytes new : List ℕ) → new ≡ text ++ bytes → (all rest : List ℕ) →
-    Counts options search first count text all (bytes ++ rest) → Counts options search first count new all rest
-more_read options search first count text bytes new is all rest h finding tests =
-    h finding tests
-    ∙ ap (λ (t : List ℕ). count + wanted_count options finding t)
-    (sym (append_assoc text bytes rest) ∙ ap (λ (t : List ℕ). t ++ rest) (sym is))
+-- what was done of a text before the next read
+searched_here : (w v : ℕ) (old mid new : Automaton) (total read : ℕ) (pending rest : List ℕ) (scanned : ℕ) → length pending ≤ total →
+    scanned ≤ length pending → v ≡ w → rest ≡ last_part pending →
+    WorksWithin (done_work w total read (length pending) scanned) old mid → WorksWithin (pending_work v pending scanned) mid new →
+    WorksWithin (all_work w total read (length rest)) old new
+searched_here w v old mid new total read pending rest scanned fewer within same is done next =
+    block_done w total read v old mid new (length pending) (length rest) scanned fewer
+    (omega (arith, ap (λ (t : List ℕ). length t) is, lines_within pending)) within same done
+    (subst (λ (r : List ℕ). WorksWithin (searched_work v (length pending - length r) + (length pending - scanned)) mid new) (sym is) next)
 
 pub pieces-preserved : goal.pieces-preserved
 pieces-preserved g c =
     let i = c.pieces.invariant in
-    let e = c.count_window-count.ensures in
+    let e = c.count_pending-count.ensures in
     let f = c.in-Ok.ensures in
     let t = f.text in
-    let old = c.count_window-count.new.window.text.items in
-    let new = c.fill.new.self.text.items in
-    let n : c.len-scanned.result ≡ length old = omega (arith, c.len-scanned.ensures, c.count_window-count.new.window.text.ok.0) in
+    let first = pending_bytes c.args.buffer.now in
+    let all = first ++ i.read in
+    let pending = pending_bytes c.pieces.buffer in
+    let old = pending_bytes c.count_pending-count.new.buffer in
+    let new = pending_bytes c.fill.new.self in
+    let model = g.R.Source.model c.args.input.now in
+    let n : length c.pending-scanned.result.now ≡ length old = ap (λ (x : List ℕ). length x) c.pending-scanned.ensures in
     let size : length new ≡ length old + length t.bytes = ap (λ (x : List ℕ). length x) t.text ∙ length-append old t.bytes in
+    let last : last_part all ≡ old = i.last ∙ sym e.count.rest in
+    let none : HasNoNewline old = subst HasNoNewline (sym e.count.rest) (HasNoNewline-last_part pending) in
     record {
+      read = i.read ++ t.bytes;
+      counted = i.counted ++ terminated_lines pending;
+      consumed = more_read model (g.R.Source.model c.pieces.input) (g.R.Source.model c.fill.new.input) i.read t.bytes i.consumed t.consumed;
+      size = omega (arith, i.size, length-append i.read t.bytes, t.size, f.left, e.left);
+      ended = f.ended;
       within = omega (arith, size, n);
-      part = subst HasNoNewline (sym (ap (λ k. take k new) n ∙ ap (take (length old)) t.text ∙ take_at old t.bytes (length old) refl)) e.count.part;
+      part = subst HasNoNewline (sym (ap (λ k. take k new) n ∙ ap (take (length old)) t.text ∙ take_at old t.bytes (length old) refl)) none;
       room = omega (arith, i.room, size, t.size, e.count.size, e.left, f.left);
-      lines = carries_on (g.R.Source.model c.args.input.now) (g.R.Source.model c.pieces.input) (g.R.Source.model c.fill.new.input) t.bytes
-          (Counts c.args.options.now c.args.search.now c.args.window.now.text.items c.pieces.count c.pieces.window.text.items) (Counts c.args.options.now c.args.search.now c.args.window.now.text.items (c.pieces.count + c.count_window-count.result) new) t.consumed
-          (λ all rest h. more_read c.args.options.now c.args.search.now c.args.window.now.text.items (c.pieces.count + c.count_window-count.result) old t.bytes new t.text all rest (counted c.args.options.now c.args.search.now c.pieces.search c.args.window.now.text.items c.pieces.count c.count_window-count.result c.pieces.window.text.items c.count_window-count.new.window.text.items c.pieces.invariant.same c.count_window-count.ensures.count all (t.bytes ++ rest) h)) i.lines;
+      lines = ap terminated_lines (sym (append_assoc first i.read t.bytes))
+          ∙ terminated_lines-append all t.bytes
+          ∙ ap (λ (p : List ℕ). terminated_lines all ++ terminated_lines (p ++ t.bytes)) last
+          ∙ ap (λ (p : List ℕ). terminated_lines all ++ terminated_lines p) (sym t.text)
+          ∙ ap (λ (ls : List (List ℕ)). ls ++ terminated_lines new) i.lines;
+      last = ap last_part (sym (append_assoc first i.read t.bytes))
+          ∙ last_part-append all t.bytes
+          ∙ ap (λ (p : List ℕ). last_part (p ++ t.bytes)) last
+          ∙ ap last_part (sym t.text);
+      count = λ finding tests.
+          counted_on c.args.most (is_wanted c.args.options.now finding.has_match) c.pieces.count c.count_pending-count.result
+          (i.counted ++ terminated_lines pending) i.counted (terminated_lines pending) refl (i.count finding tests)
+          (e.count.counted finding (tests_same c.args.search.now c.pieces.search i.same finding.has_match tests));
       failed = f.failed ∙ i.failed;
-      same = keeps_again c.args.search.now c.pieces.search c.count_window-count.new.search i.same e.same;
+      same = keeps_again c.args.search.now c.count_pending-count.new.search c.add_steps.new.self
+          (keeps_again c.args.search.now c.pieces.search c.count_pending-count.new.search i.same e.same) c.add_steps.ensures.same;
+      budget = c.add_steps.ensures.budget ∙ e.budget ∙ i.budget;
+      work =
+          let total = length (first ++ i.read) in
+          let mid = c.count_pending-count.new.search.matcher in
+          let new-total : length (first ++ (i.read ++ t.bytes)) ≡ total + length t.bytes =
+          omega (arith, length-append first i.read, length-append first (i.read ++ t.bytes), length-append i.read t.bytes) in
+          let low : length old ≤ total = omega (arith, i.fewer, ap (λ (x : List ℕ). length x) e.count.rest, lines_within pending) in
+          let left : length (first ++ (i.read ++ t.bytes)) - length new ≡ total + length t.bytes - (length old + length t.bytes) = omega (arith, new-total, size) in
+          works_fewer _ _ c.args.search.now.matcher c.add_steps.new.self.matcher
+          (omega (arith, ap (searched_work (line_weight c.args.search.now)) left, new-total, size, n, length-append i.read t.bytes))
+          (read_done (line_weight c.args.search.now) total (length i.read) c.args.search.now.matcher mid c.add_steps.new.self.matcher (length old) (length t.bytes) low
+          (omega (arith, some_read c.in-Ok.field-0 c.in-Ok.field-0-test.1, t.size))
+          (searched_here (line_weight c.args.search.now) (line_weight c.pieces.search) c.args.search.now.matcher c.pieces.search.matcher mid total (length i.read)
+          pending old c.pieces.scanned i.fewer i.within (same_weight c.args.search.now c.pieces.search i.same) e.count.rest i.work e.work) c.add_steps.ensures.work);
+      fewer = omega (
+        arith,
+        i.fewer,
+        size,
+        length-append first i.read,
+        length-append first (i.read ++ t.bytes),
+        length-append i.read t.bytes,
+        ap (λ (x : List ℕ). length x) e.count.rest,
+        lines_within pending,
+      );
       keeps = g.met.R.Source.keeps_trans c.args.input.now c.pieces.input c.fill.new.input i.keeps f.keeps;
     }
 
--- what is said of the number of wanted lines
-abbrev CountsAll : LineSearch → ShowOptions → Option ℕ → Bool → ℕ → List ℕ → List ℕ → Type 0
-CountsAll search options most whole count first all = (finding : Finding) → Tests finding.has_match search →
-    (whole ≡ true → at_most most count ≡ at_most most (wanted_count options finding (first ++ all)))
-    × (count ≤ wanted_count options finding (first ++ all))
-
 pub returns-then-is_enough-clause-count : goal.returns-then-is_enough-clause-count
 returns-then-is_enough-clause-count g c =
+    let i = c.pieces.invariant in
+    let e = c.count_pending-count.ensures in
     let options = c.args.options.now in
-    let count = c.pieces.count + c.count_window-count.result in
-    let text = c.count_window-count.new.window.text.items in
-    carries_any (g.R.Source.model c.args.input.now) (g.R.Source.model c.pieces.input)
-    (Counts c.args.options.now c.args.search.now c.args.window.now.text.items c.pieces.count c.pieces.window.text.items)
-    (CountsAll c.args.search.now options c.args.most true count c.args.window.now.text.items)
-    (λ all rest h finding tests.
-    let is = counted c.args.options.now c.args.search.now c.pieces.search c.args.window.now.text.items c.pieces.count c.count_window-count.result c.pieces.window.text.items c.count_window-count.new.window.text.items c.pieces.invariant.same c.count_window-count.ensures.count all rest h finding tests in (
-      λ _. enough c.args.most count (wanted_count options finding (text ++ rest)) (sym c.is_enough.ensures ∙ c.if-is_enough.true) ∙ ap (at_most c.args.most) (sym is),
-      omega (arith, is),
-    )) c.pieces.invariant.lines
+    let most = c.args.most in
+    let first = pending_bytes c.args.buffer.now in
+    let all = first ++ i.read in
+    let count = c.pieces.count + c.count_pending-count.result in
+    let enough = sym c.is_enough.ensures ∙ c.if-is_enough.true in
+    read_part c.args.buffer.now.left (g.R.Source.model c.args.input.now) (g.R.Source.model c.pieces.input) i.read
+    (λ text ended. (finding : Finding) → Tests finding.has_match c.args.search.now →
+    IsCount most count (wanted_of options finding (read_lines ended (first ++ text)))
+    × (Whole ≡ ended_by most (wanted_of options finding (read_lines ended (first ++ text))) ended))
+    i.consumed (omega (arith, i.size))
+    (λ more ended finding tests.
+    let wanted = is_wanted options finding.has_match in
+    let rest = read_more ended all more in
+    let is = ap (read_lines ended) (sym (append_assoc first i.read more)) ∙ rest.1 in
+    let so_far = counted_on most wanted c.pieces.count c.count_pending-count.result (terminated_lines all) i.counted (terminated_lines (pending_bytes c.pieces.buffer))
+    i.lines (i.count finding tests) (e.count.counted finding (tests_same c.args.search.now c.pieces.search i.same finding.has_match tests)) in
+    let done : IsCount most count (wanted_of options finding (read_lines ended (first ++ (i.read ++ more)))) =
+    subst (IsCount most count) (sym (ap (count_by wanted) is ∙ count_append wanted (terminated_lines all) rest.0))
+    (count_enough most count (count_by wanted (terminated_lines all)) (count_by wanted rest.0) enough so_far) in
+    (done, ended_enough most _ ended (enough_more most count _ enough done.0)))
 
 pub returns-in-Err-clause-count : goal.returns-in-Err-clause-count
 returns-in-Err-clause-count g c =
-    let count = c.pieces.count + c.count_window-count.result in
-    carries_any (g.R.Source.model c.args.input.now) (g.R.Source.model c.pieces.input)
-    (Counts c.args.options.now c.args.search.now c.args.window.now.text.items c.pieces.count c.pieces.window.text.items)
-    (CountsAll c.args.search.now c.args.options.now c.args.most (is_whole c.in_ok-ended-in-Err.ended) count c.args.window.now.text.items)
-    (λ all rest h finding tests.
-    let is = counted c.args.options.now c.args.search.now c.pieces.search c.args.window.now.text.items c.pieces.count c.count_window-count.result c.pieces.window.text.items c.count_window-count.new.window.text.items c.pieces.invariant.same c.count_window-count.ensures.count all rest h finding tests in (
-      λ whole. absurd (false≢true (sym c.in_ok-ended-in-Err.ensures.cut ∙ whole)),
-      omega (arith, is),
-    )) c.pieces.invariant.lines
+    let i = c.pieces.invariant in
+    let e = c.count_pending-count.ensures in
+    let options = c.args.options.now in
+    let most = c.args.most in
+    let first = pending_bytes c.args.buffer.now in
+    let all = first ++ i.read in
+    let count = c.pieces.count + c.count_pending-count.result in
+    let ended = c.in_ok-ended-in-Err.ended in
+    let few = sym c.is_enough.ensures ∙ c.if-is_enough.false in
+    read_cut c.in-Err.fault ended c.args.buffer.now.left c.count_pending-count.new.buffer.left (g.R.Source.model c.args.input.now)
+    (g.R.Source.model c.pieces.input) (g.R.Source.model c.fill.new.input) i.read
+    (λ text cut. (finding : Finding) → Tests finding.has_match c.args.search.now →
+    IsCount most count (wanted_of options finding (read_lines cut (first ++ text)))
+    × (ended ≡ ended_by most (wanted_of options finding (read_lines cut (first ++ text))) cut))
+    c.in_ok-ended-in-Err.ensures.ended c.in-Err.ensures.text.1 i.consumed (omega (arith, i.size, e.left))
+    (λ cut part is finding tests.
+    let wanted = is_wanted options finding.has_match in
+    let so_far = counted_on most wanted c.pieces.count c.count_pending-count.result (terminated_lines all) i.counted (terminated_lines (pending_bytes c.pieces.buffer))
+    i.lines (i.count finding tests) (e.count.counted finding (tests_same c.args.search.now c.pieces.search i.same finding.has_match tests)) in
+    let done = subst (λ (ls : List (List ℕ)). IsCount most count (count_by wanted ls)) (sym (read_ended cut all part)) so_far in
+    (done, is ∙ ended_few most _ cut (few_enough most count _ few done)))
 
 pub returns-clause-count : goal.returns-clause-count
 returns-clause-count g c =
     let i = c.pieces.invariant in
-    let e = c.count_window-count.ensures in
+    let e = c.count_pending-count.ensures in
     let t = c.in-Ok-eq0.ensures.text in
     let options = c.args.options.now in
-    let count = c.pieces.count + c.count_window-count.result in
-    let old = c.count_window-count.new.window.text.items in
-    let new = c.fill.new.self.text.items in
+    let most = c.args.most in
+    let first = pending_bytes c.args.buffer.now in
+    let all = first ++ i.read in
+    let old = pending_bytes c.count_pending-count.new.buffer in
     let zero = c.in-Ok-eq0.field-0-test in
     let none : t.bytes ≡ [] = nil_from_length t.bytes (t.size ∙ zero) in
-    let same : new ≡ old = t.text ∙ ap (λ (b : List ℕ). old ++ b) none ∙ append-nil old in
-    let part : HasNoNewline new = subst HasNoNewline (sym same) e.count.part in
-    let read = carries_on (g.R.Source.model c.args.input.now) (g.R.Source.model c.pieces.input) (g.R.Source.model c.fill.new.input) t.bytes
-    (Counts c.args.options.now c.args.search.now c.args.window.now.text.items c.pieces.count c.pieces.window.text.items) (Counts c.args.options.now c.args.search.now c.args.window.now.text.items count new) t.consumed
-    (λ all rest h. more_read c.args.options.now c.args.search.now c.args.window.now.text.items (c.pieces.count + c.count_window-count.result) old t.bytes new t.text all rest (counted c.args.options.now c.args.search.now c.pieces.search c.args.window.now.text.items c.pieces.count c.count_window-count.result c.pieces.window.text.items c.count_window-count.new.window.text.items c.pieces.invariant.same c.count_window-count.ensures.count all (t.bytes ++ rest) h)) i.lines in
-    carries_end (g.R.Source.model c.args.input.now) (g.R.Source.model c.fill.new.input) (Counts c.args.options.now c.args.search.now c.args.window.now.text.items count new)
-    (CountsAll c.args.search.now options c.args.most true (count + c.last_count-count.result) c.args.window.now.text.items)
-    (t.end zero)
-    (λ all h finding tests.
+    let same : pending_bytes c.fill.new.self ≡ old = t.text ∙ ap (λ (b : List ℕ). old ++ b) none ∙ append-nil old in
+    let last : last_part all ≡ old = i.last ∙ sym e.count.rest in
+    let model = g.R.Source.model c.args.input.now in
+    let consumed = subst (Consumes model (g.R.Source.model c.fill.new.input)) (ap (λ (b : List ℕ). i.read ++ b) none ∙ append-nil i.read)
+    (more_read model (g.R.Source.model c.pieces.input) (g.R.Source.model c.fill.new.input) i.read t.bytes i.consumed t.consumed) in
+    let count = c.pieces.count + c.count_pending-count.result in
+    read_to ends c.args.buffer.now.left model (g.R.Source.model c.fill.new.input) i.read
+    (λ text ended. (finding : Finding) → Tests finding.has_match c.args.search.now →
+    IsCount most (count + c.last_count-count.result) (wanted_of options finding (read_lines ended (first ++ text)))
+    × (Whole ≡ ended_by most (wanted_of options finding (read_lines ended (first ++ text))) ended))
+    consumed (t.end zero) (omega (arith, i.size))
+    (λ finding tests.
     let wanted = is_wanted options finding.has_match in
-    let now = tests_same c.args.search.now c.count_window-count.new.search (keeps_again c.args.search.now c.pieces.search c.count_window-count.new.search i.same e.same)
-    finding.has_match tests in
-    let last : c.last_count-count.result ≡ wanted_count options finding (new ++ []) =
-    c.last_count-count.ensures.count finding now ∙ ap (λ (x : List ℕ). count_by wanted (last_line x)) c.deref.ensures.value ∙ ap (count_by wanted) (sym (lines_part new part)) ∙ ap (wanted_count options finding) (sym (append-nil new)) in
-    let is = ap (λ n. count + n) last ∙ sym (h finding tests) in (λ _. ap (at_most c.args.most) is, omega (arith, is)))
-    read
+    let so_far = counted_on most wanted c.pieces.count c.count_pending-count.result (terminated_lines all) i.counted (terminated_lines (pending_bytes c.pieces.buffer))
+    i.lines (i.count finding tests) (e.count.counted finding (tests_same c.args.search.now c.pieces.search i.same finding.has_match tests)) in
+    let now = tests_same c.args.search.now c.add_steps.new.self (keeps_again c.args.search.now c.count_pending-count.new.search c.add_steps.new.self
+    (keeps_again c.args.search.now c.pieces.search c.count_pending-count.new.search i.same e.same) c.add_steps.ensures.same) finding.has_match tests in
+    let rest : c.last_count-count.result ≡ count_by wanted (last_line (last_part all)) =
+    c.last_count-count.ensures.count finding now ∙ ap (λ (x : List ℕ). count_by wanted (last_line x)) (c.pending.ensures ∙ same ∙ sym last) in (
+      counted_on most wanted count c.last_count-count.result (lines all) (terminated_lines all) (last_line (last_part all)) (lines-split all) so_far
+          (is_count most c.last_count-count.result _ rest),
+      ended_whole most _,
+    ))
+
+pub returns-then-is_enough-clause-work : goal.returns-then-is_enough-clause-work
+returns-then-is_enough-clause-work g c =
+    let i = c.pieces.invariant in
+    let e = c.count_pending-count.ensures in
+    let w = line_weight c.args.search.now in
+    let s0 = c.args.search.now.matcher in
+    let first = pending_bytes c.args.buffer.now in
+    let all = first ++ i.read in
+    let mid = c.count_pending-count.new.search.matcher in
+    let done = searched_here w (line_weight c.pieces.search) s0 c.pieces.search.matcher mid (length all) (length i.read) (pending_bytes c.pieces.buffer)
+    (pending_bytes c.count_pending-count.new.buffer) c.pieces.scanned i.fewer i.within (same_weight c.args.search.now c.pieces.search i.same) e.count.rest i.work e.work in
+    record {
+      text = i.read;
+      read = i.consumed;
+      size = omega (arith, i.size);
+      bound = input_done w s0 mid all (length i.read) (length (pending_bytes c.count_pending-count.new.buffer)) 0 (omega (arith, length-append first i.read))
+          (omega arith) (works_fewer _ _ s0 mid (omega arith) done);
+    }
+
+pub returns-in_err-ended-in-Err-clause-work : goal.returns-in_err-ended-in-Err-clause-work
+returns-in_err-ended-in-Err-clause-work g c =
+    let i = c.pieces.invariant in
+    let e = c.count_pending-count.ensures in
+    let w = line_weight c.args.search.now in
+    let s0 = c.args.search.now.matcher in
+    let first = pending_bytes c.args.buffer.now in
+    let all = first ++ i.read in
+    let old = pending_bytes c.count_pending-count.new.buffer in
+    let mid = c.count_pending-count.new.search.matcher in
+    let read = c.add_steps.new.self.matcher in
+    let done = searched_here w (line_weight c.pieces.search) s0 c.pieces.search.matcher mid (length all) (length i.read) (pending_bytes c.pieces.buffer) old c.pieces.scanned i.fewer i.within
+    (same_weight c.args.search.now c.pieces.search i.same) e.count.rest i.work e.work in
+    let more = refused_read c.in-Err.fault c.count_pending-count.new.buffer.left (g.R.Source.model c.pieces.input) (g.R.Source.model c.fill.new.input)
+    c.in-Err.ensures.text.1 in
+    record {
+      text = i.read ++ more.0;
+      read = more_read (g.R.Source.model c.args.input.now) (g.R.Source.model c.pieces.input) (g.R.Source.model c.fill.new.input) i.read more.0 i.consumed more.2;
+      size = omega (arith, i.size, length-append i.read more.0, more.1);
+      bound = subst (λ (t : List ℕ). WorksWithin (input_work w t) s0 read) (append_assoc first i.read more.0)
+          (input_past w s0 read all more.0 (length i.read) (length old) 1 (omega (arith, length-append first i.read)) (omega arith)
+          (works_more _ 1 s0 mid read done c.add_steps.ensures.work));
+    }
+
+pub returns-in-Err-clause-work : goal.returns-in-Err-clause-work
+returns-in-Err-clause-work g c =
+    let i = c.pieces.invariant in
+    let e = c.count_pending-count.ensures in
+    let w = line_weight c.args.search.now in
+    let s0 = c.args.search.now.matcher in
+    let first = pending_bytes c.args.buffer.now in
+    let all = first ++ i.read in
+    let old = pending_bytes c.count_pending-count.new.buffer in
+    let mid = c.count_pending-count.new.search.matcher in
+    let read = c.add_steps.new.self.matcher in
+    let done = searched_here w (line_weight c.pieces.search) s0 c.pieces.search.matcher mid (length all) (length i.read) (pending_bytes c.pieces.buffer) old c.pieces.scanned i.fewer i.within
+    (same_weight c.args.search.now c.pieces.search i.same) e.count.rest i.work e.work in
+    let more = refused_read c.in-Err.fault c.count_pending-count.new.buffer.left (g.R.Source.model c.pieces.input) (g.R.Source.model c.fill.new.input)
+    c.in-Err.ensures.text.1 in
+    record {
+      text = i.read ++ more.0;
+      read = more_read (g.R.Source.model c.args.input.now) (g.R.Source.model c.pieces.input) (g.R.Source.model c.fill.new.input) i.read more.0 i.consumed more.2;
+      size = omega (arith, i.size, length-append i.read more.0, more.1);
+      bound = subst (λ (t : List ℕ). WorksWithin (input_work w t) s0 read) (append_assoc first i.read more.0)
+          (input_past w s0 read all more.0 (length i.read) (length old) 1 (omega (arith, length-append first i.read)) (omega arith)
+          (works_more _ 1 s0 mid read done c.add_steps.ensures.work));
+    }
+
+pub returns-clause-work : goal.returns-clause-work
+returns-clause-work g c =
+    let i = c.pieces.invariant in
+    let e = c.count_pending-count.ensures in
+    let w = line_weight c.args.search.now in
+    let s0 = c.args.search.now.matcher in
+    let first = pending_bytes c.args.buffer.now in
+    let all = first ++ i.read in
+    let mid = c.count_pending-count.new.search.matcher in
+    let done = searched_here w (line_weight c.pieces.search) s0 c.pieces.search.matcher mid (length all) (length i.read) (pending_bytes c.pieces.buffer)
+    (pending_bytes c.count_pending-count.new.buffer) c.pieces.scanned i.fewer i.within (same_weight c.args.search.now c.pieces.search i.same) e.count.rest i.work e.work in
+    let t = c.in-Ok-eq0.ensures.text in
+    let zero = c.in-Ok-eq0.field-0-test in
+    let none : t.bytes ≡ [] = nil_from_length t.bytes (t.size ∙ zero) in
+    let old = pending_bytes c.count_pending-count.new.buffer in
+    let model = g.R.Source.model c.args.input.now in
+    let same : pending_bytes c.fill.new.self ≡ old = t.text ∙ ap (λ (b : List ℕ). old ++ b) none ∙ append-nil old in
+    let rest : c.pending.result.now ≡ last_part all = c.pending.ensures ∙ same ∙ e.count.rest ∙ sym i.last in
+    let read = c.add_steps.new.self.matcher in
+    let v = line_weight c.add_steps.new.self in
+    let end = c.last_count-count.new.search.matcher in
+    let works = works_more _ _ s0 read end (works_more _ _ s0 mid read done c.add_steps.ensures.work) c.last_count-count.ensures.work in
+    record {
+      text = i.read;
+      read = subst (Consumes model (g.R.Source.model c.fill.new.input)) (ap (λ (b : List ℕ). i.read ++ b) none ∙ append-nil i.read)
+          (more_read model (g.R.Source.model c.pieces.input) (g.R.Source.model c.fill.new.input) i.read t.bytes i.consumed t.consumed);
+      size = omega (arith, i.size);
+      bound = input_done w s0 end all (length i.read) (length old) (1 + line_work v (length c.pending.result.now))
+          (omega (arith, length-append first i.read))
+          (omega (
+            arith,
+            ap (λ (x : List ℕ). line_work v (length x)) rest,
+            ap (λ (k : ℕ). line_work k (length (last_part all))) (same_weight c.args.search.now c.add_steps.new.self
+                (keeps_again c.args.search.now c.count_pending-count.new.search c.add_steps.new.self
+                (keeps_again c.args.search.now c.pieces.search c.count_pending-count.new.search i.same e.same) c.add_steps.ensures.same)),
+          ))
+          (works_fewer _ _ s0 end (omega arith) works);
+    }

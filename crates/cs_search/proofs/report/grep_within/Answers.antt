@@ -1,113 +1,46 @@
-use Rattle.std.proofs.Common.{◌+◌, sym, subst}
-use Rattle.cs_search.specs.Buffer.{pending_bytes}
-use Rattle.cs_search.proofs.InputWorkLemmas.{ended_input, rest_input, steps_lose}
-use Rattle.cs_match.specs.Deciding.{Decides}
-use Rattle.cs_search.specs.declared.status.Stop.TheVariants.{End}
-use Rattle.cs_search.specs.Progress.{Stops}
-use Rattle.cs_search.proofs.InputReportLemmas.{Reports-listed, Reports-left, Reports-end}
-use Rattle.std.proofs.lemmas.Result.{err_from_is_err_and}
-use Rattle.cs_search.proofs.PrintedPrefixLemmas.{ReportsPrefix-read, ReportsPrefix-ended}
+use Rattle.std.proofs.Common.{rules, ◌≡◌, ap, sym, subst, ◌∙◌}
+use Rattle.cs_tree.specs.Failures.{count_if}
+use Rattle.cs_tree.specs.FailureCount.{count_after}
+use Rattle.cs_tree.specs.SinkOutputs.{failures_after}
+use Rattle.cs_search.specs.GrepFaults.{answer_of, has_read_failed, is_grep_failure}
+use Rattle.cs_search.specs.GrepReports.{ReportsBy}
+use Rattle.cs_search.specs.InputReport.{input_report}
+use Rattle.cs_search.proofs.AnswerLemmas.{as_left, page_of, input_answered, new_handed, read_work, reads_counted, writes_counted}
 use Rattle.cs_search.proofs.report.grep_within.Goals as goal
 
-pub returns-in-Listed-clause-report : goal.returns-in-Listed-clause-report
-returns-in-Listed-clause-report g c = λ has_match decides.
-    let s = rw c.in-Listed.is at c.in_ok-search_input.ensures in
+pub returns-clause-report : goal.returns-clause-report
+returns-clause-report g c = λ tree is.
+    let new = c.new-sink.ensures in
+    let p = c.print_input-printed in
     let printer = c.args.printer.now in
-    Reports-listed printer.style printer.name.now has_match c.new-tally.result c.search_input.new.tally
-    c.new-tally.ensures.0 c.new-tally.ensures.1 (g.O.Sink.model c.args.out.now)
-    (g.O.Sink.model c.search_input.new.out) c.args.limit (g.R.Source.model c.args.input.now) (s.tests has_match decides)
-
-pub returns-in-Faulted-clause-report : goal.returns-in-Faulted-clause-report
-returns-in-Faulted-clause-report g c = λ has_match decides.
-    let s = rw c.in-Faulted.is at c.in_ok-search_input.ensures in
-    let printer = c.args.printer.now in
-    Reports-left printer.style printer.name.now has_match c.new-tally.result c.search_input.new.tally
-    c.new-tally.ensures.0 c.new-tally.ensures.1 (g.O.Sink.model c.args.out.now)
-    (g.O.Sink.model c.search_input.new.out) c.args.limit (g.R.Source.model c.args.input.now) c.in-Faulted.fault _ _
-    s.stops s.unlisted (s.tests has_match decides)
-
-pub returns-in_ok-end_search-in-End-clause-report : goal.returns-in_ok-end_search-in-End-clause-report
-returns-in_ok-end_search-in-End-clause-report g c = λ has_match decides.
-    let s = rw c.in-End.is at c.in_ok-search_input.ensures in
-    let printer = c.args.printer.now in
+    let out = c.args.out.now in
     let model = g.R.Source.model c.args.input.now in
-    let mid = c.search_input.new.tally in
-    let e = c.in_ok-end_search-in-End.ensures.ends.0 has_match (subst (Decides has_match) (sym s.same) decides) in
-    Reports-end printer.style printer.name.now has_match c.new-tally.result c.end_search.new.tally
-    c.new-tally.ensures.0 c.new-tally.ensures.1 (g.O.Sink.model c.args.out.now)
-    e.tested c.args.limit model mid (g.O.Sink.model c.search_input.new.out)
-    c.pending.result.now (g.O.Sink.model c.end_search.new.out)
-    (subst (λ r. Stops c.args.printer.now.style c.args.limit End model r mid.lines) (sym c.pending.ensures) s.stops)
-    s.unlisted (s.tests has_match decides) e.tests e.written
+    let report = input_report c.args.limit printer.style printer.name.now in
+    let handed = p.ensures.handed.handed (g.O.Sink.model out)
+    (new_handed g.O.Sink.model c.new-sink.result out new.sink new.given new.fault) in
+    as_left (λ o. ReportsBy tree model report (g.O.Sink.model out) (g.O.Sink.model o) c.answer_of.result) p.new.out.sink.now _ (search rules)
+    (subst (λ result. ReportsBy tree model report (g.O.Sink.model out) (g.O.Sink.model p.new.out.sink.now) result)
+    (ap (λ f. answer_of f p.result) (sym c.fault.ensures) ∙ sym c.answer_of.ensures)
+    (input_answered printer.style (page_of c.args.printer c.options_of-options.result) c.options_of-options.ensures tree _ _
+    new.given (g.O.Sink.model out) (g.O.Sink.model p.new.out.sink.now) p.new.out.fault handed c.args.limit model p.result
+    (p.ensures.text tree is) (p.ensures.begins tree is)))
 
-pub returns-in_err-search_input-clause-report : goal.returns-in_err-search_input-clause-report
-returns-in_err-search_input-clause-report g c =
-    let p = err_from_is_err_and c.from_residual.result c.from_residual.ensures.1 in
-    rw p.1 (λ has_match decides.
-    let printer = c.args.printer.now in
-    ReportsPrefix-read printer.style printer.name.now has_match c.new-tally.result c.new-tally.ensures.0
-    c.new-tally.ensures.1 (g.O.Sink.model c.args.out.now) c.args.limit (g.R.Source.model c.args.input.now)
-    (g.O.Sink.model c.search_input.new.out) (c.in_err-search_input.ensures.tests has_match decides))
+pub returns-clause-counts : goal.returns-clause-counts
+returns-clause-counts g c =
+    let new = c.new-sink.ensures in
+    let p = c.print_input-printed in
+    let reads = g.R.Source.failed c.args.input.now in
+    let writes = g.O.Sink.failed c.args.out.now in
+    let is = ap (λ f. answer_of f p.result) (sym c.fault.ensures) ∙ sym c.answer_of.ensures in
+    let wrote = p.ensures.handed.counted writes (ap g.O.Sink.failed new.sink ∙ sym (ap (λ f. failures_after f writes) new.fault)) in (
+      reads_counted p.new.out.fault p.result _ _ p.ensures.failed (λ failed. p.ensures.alone failed new.fault)
+          ∙ ap (λ r. count_if (has_read_failed r) reads) is,
+      as_left (λ o. g.O.Sink.failed o ≡ count_after is_grep_failure c.answer_of.result writes) p.new.out.sink.now _ (search rules)
+          (writes_counted p.new.out.fault p.result _ _ wrote ∙ ap (λ r. count_after is_grep_failure r writes) is),
+    )
 
-pub returns-in_err-end_search-in-End-clause-report : goal.returns-in_err-end_search-in-End-clause-report
-returns-in_err-end_search-in-End-clause-report g c =
-    let p = err_from_is_err_and c.from_residual-in_err-end_search-in-End.result c.from_residual-in_err-end_search-in-End.ensures.1 in
-    rw p.1 (λ has_match decides.
-    let s = rw c.in-End.is at c.in_ok-search_input.ensures in
-    let printer = c.args.printer.now in
-    let model = g.R.Source.model c.args.input.now in
-    let mid = c.search_input.new.tally in
-    ReportsPrefix-ended printer.style printer.name.now has_match c.new-tally.result c.new-tally.ensures.0
-    c.new-tally.ensures.1 (g.O.Sink.model c.args.out.now) c.args.limit model mid c.end_search.new.tally
-    (g.O.Sink.model c.search_input.new.out) c.pending.result.now (g.O.Sink.model c.end_search.new.out)
-    (subst (λ r. Stops c.args.printer.now.style c.args.limit End model r mid.lines) (sym c.pending.ensures) s.stops)
-    s.unlisted (s.tests has_match decides)
-    (c.in_err-end_search-in-End.ensures.ends.0 has_match (subst (Decides has_match) (sym s.same) decides)))
-
-pub search_input-requires-clause-empty : goal.search_input-requires-clause-empty
-unfolding pending_bytes
-search_input-requires-clause-empty g c = c.clear.ensures
-
-pub returns-in-Listed-clause-work : goal.returns-in-Listed-clause-work
-returns-in-Listed-clause-work g c =
-    ended_input (c.args.limit + 1) (g.R.Source.model c.args.input.now) (g.R.Source.model c.search_input.new.input)
-    c.args.matcher.now c.search_input.new.matcher c.search_input.ensures.work.steps
-
-pub returns-in-Faulted-clause-work : goal.returns-in-Faulted-clause-work
-returns-in-Faulted-clause-work g c =
-    ended_input (c.args.limit + 1) (g.R.Source.model c.args.input.now) (g.R.Source.model c.search_input.new.input)
-    c.args.matcher.now c.search_input.new.matcher c.search_input.ensures.work.steps
-
-pub returns-in_err-search_input-clause-work : goal.returns-in_err-search_input-clause-work
-returns-in_err-search_input-clause-work g c =
-    ended_input (c.args.limit + 1) (g.R.Source.model c.args.input.now) (g.R.Source.model c.search_input.new.input)
-    c.args.matcher.now c.search_input.new.matcher c.search_input.ensures.work.steps
-
-pub returns-in_ok-end_search-in-End-clause-work : goal.returns-in_ok-end_search-in-End-clause-work
-returns-in_ok-end_search-in-End-clause-work g c =
-    let s = rw c.in-End.is at c.in_ok-search_input.ensures in
-    rest_input (c.args.limit + 1) (g.R.Source.model c.args.input.now) (g.R.Source.model c.search_input.new.input)
-    c.args.matcher.now (pending_bytes c.search_input.new.buffer) c.pending.result.now c.search_input.new.matcher
-    c.end_search.new.matcher s.work s.same c.pending.ensures c.end_search.ensures.work
-
-pub returns-in_err-end_search-in-End-clause-work : goal.returns-in_err-end_search-in-End-clause-work
-returns-in_err-end_search-in-End-clause-work g c =
-    let s = rw c.in-End.is at c.in_ok-search_input.ensures in
-    rest_input (c.args.limit + 1) (g.R.Source.model c.args.input.now) (g.R.Source.model c.search_input.new.input)
-    c.args.matcher.now (pending_bytes c.search_input.new.buffer) c.pending.result.now c.search_input.new.matcher
-    c.end_search.new.matcher s.work s.same c.pending.ensures c.end_search.ensures.work
-
-pub returns-in-Listed-clause-loses : goal.returns-in-Listed-clause-loses
-returns-in-Listed-clause-loses g c = steps_lose c.search_input.ensures.work.steps
-
-pub returns-in-Faulted-clause-loses : goal.returns-in-Faulted-clause-loses
-returns-in-Faulted-clause-loses g c = steps_lose c.search_input.ensures.work.steps
-
-pub returns-in_err-search_input-clause-loses : goal.returns-in_err-search_input-clause-loses
-returns-in_err-search_input-clause-loses g c = steps_lose c.search_input.ensures.work.steps
-
-pub returns-in_ok-end_search-in-End-clause-loses : goal.returns-in_ok-end_search-in-End-clause-loses
-returns-in_ok-end_search-in-End-clause-loses g c = steps_lose c.search_input.ensures.work.steps
-
-pub returns-in_err-end_search-in-End-clause-loses : goal.returns-in_err-end_search-in-End-clause-loses
-returns-in_err-end_search-in-End-clause-loses g c = steps_lose c.search_input.ensures.work.steps
+pub returns-clause-work : goal.returns-clause-work
+returns-clause-work g c =
+    read_work c.args.printer.now.style (page_of c.args.printer c.options_of-options.result) c.options_of-options.ensures
+    c.args.search.now c.print_input-printed.new.search c.args.limit (g.R.Source.model c.args.input.now)
+    (g.R.Source.model c.print_input-printed.new.input) c.print_input-printed.ensures.work

@@ -1,7 +1,6 @@
 use Rattle.std.proofs.Common.{Err, refl, sym, subst}
 use Rattle.std.specs.Prelude.{string_bytes}
 use Rattle.std.proofs.lemmas.Result.{err_from_is_err_and}
-use Rattle.cs_match.specs.Deciding.{Decides}
 use Rattle.cs_tree.proofs.GrowsLemmas.{Grows-same}
 use Rattle.cs_tree.specs.Sinks.{CountsOne}
 use Rattle.cs_tree.specs.TakesPrefix.{EndsAfter}
@@ -64,8 +63,11 @@ returns-in_err-matched-clause-searches g c =
     (g.R.Source.failed c.args.input.now) (g.R.Source.failed c.search_inputs.new.input) (outputs_of out out-now err err-now)
     (Err fault) (is.0, is.1, is.2) (same_fault fault e.counts.1) c.search_inputs.ensures.loses
     (λ has_match tests. PrintsAnswer-prefix _ fault out out-now err err-now
-    (e.prints has_match (subst (Decides has_match) (sym c.in_ok-searcher.ensures.2)
-    (decides_program (string_bytes job.pattern) job.fold program has_match is tests))))
+    (e.prints has_match (
+      program,
+      c.in_ok-searcher.ensures.lines,
+      decides_program (string_bytes job.pattern) job.fold program has_match is tests,
+    )))
     e.faults)
 
 pub returns-in_err-matched-clause-silent : goal.returns-in_err-matched-clause-silent
@@ -93,8 +95,11 @@ returns-clause-searches g c =
     (g.R.Source.failed c.args.input.now) (g.R.Source.failed c.search_inputs.new.input) (outputs_of out out-later err err-later)
     c.finish.result (is.0, is.1, is.2) f.counts.1 c.search_inputs.ensures.loses
     (λ has_match tests. PrintsAnswer-ended out out-now out-later err err-now err-later _ c.in_ok-matched.matched c.finish.result
-    (e.prints has_match (subst (Decides has_match) (sym c.in_ok-searcher.ensures.2)
-    (decides_program (string_bytes job.pattern) job.fold program has_match is tests)))
+    (e.prints has_match (
+      program,
+      c.in_ok-searcher.ensures.lines,
+      decides_program (string_bytes job.pattern) job.fold program has_match is tests,
+    ))
     f.out f.err f.status)
     (PrintsFaultsOf-as job _ _ _ _ (λ lines. WritesBytes lines err err-now done) (λ lines. EndsAfter lines err err-later c.finish.result)
     (λ tool names failed failed' faults. PrintsFaults-flushed tool c.finish.result names failed failed' err err-now err-later

@@ -5,6 +5,7 @@ use Rattle.cs_syntax.specs.Matching.{Tree}
 use Rattle.cs_tree.specs.Sinks.{SinkModel}
 use Rattle.cs_args.specs.declared.jobs.Style.{Style}
 use Rattle.cs_search.specs.GrepReports.{text_report}
+use Rattle.cs_match.specs.Automaton.{Automaton}
 use Rattle.cs_match.specs.Cached.{IsCacheOf}
 use Rattle.codesearch_c.specs.Compiled.{Compiled}
 use Rattle.codesearch_c.specs.Copies.{IsCopy}
@@ -32,7 +33,8 @@ pub invariant_of-self-in-Ok-answer : goal.invariant_of-self-in-Ok-answer
 invariant_of-self-in-Ok-answer c = (
   c.self.invariant.0,
   c.self.invariant.1,
-  subst (λ (tree : Tree). IsCacheOf tree c.into_cache.result) (c.grep_text-answer.ensures.same ∙ c.in-Ok-matcher_of.ensures.tree) c.into_cache.ensures,
+  subst (λ (tree : Tree). IsCacheOf tree c.into_cache.result) (ap (λ (m : Automaton). m.tree) c.into_matcher.ensures ∙ (c.grep_text-answer.ensures.same _ c.of_lines-search.ensures).0
+      ∙ c.in-Ok-matcher_of.ensures.tree) c.into_cache.ensures,
   c.self.invariant.3,
 )
 
@@ -40,7 +42,8 @@ pub invariant_of-self-2 : goal.invariant_of-self-2
 invariant_of-self-2 c = (
   c.self.invariant.0,
   c.self.invariant.1,
-  subst (λ (tree : Tree). IsCacheOf tree c.into_cache.result) (c.grep_text-answer.ensures.same ∙ c.in-Ok-matcher_of.ensures.tree) c.into_cache.ensures,
+  subst (λ (tree : Tree). IsCacheOf tree c.into_cache.result) (ap (λ (m : Automaton). m.tree) c.into_matcher.ensures ∙ (c.grep_text-answer.ensures.same _ c.of_lines-search.ensures).0
+      ∙ c.in-Ok-matcher_of.ensures.tree) c.into_cache.ensures,
   c.self.invariant.3,
 )
 
@@ -53,7 +56,7 @@ returns-in-Ok-answer-clause-code c =
     c.in-Ok.ensures.cases.0 c.style_of.ensures
     (to_z-of_z w32 c.copy_items.result (record { sfits = c.copy_items.type_inv }))
     (λ has_match decides.
-    let reported = c.in-Ok-answer.ensures.report has_match
+    let reported = c.in-Ok-answer.ensures.report _ c.of_lines-search.ensures has_match
     (decides_program has_match _ _ _ _ c.in-Ok-matcher_of.ensures.tree c.self.invariant.0
     (ap (λ (p : Compiled). p.pattern) c.self.view_is) decides) in
     c.bytes.ensures ∙ ap written reported.0 ∙ ap (λ (bytes : List ℕ). bytes

@@ -1,7 +1,7 @@
 use Rattle.std.proofs.Common.{true, subst, sym}
 use Rattle.std.specs.Prelude.{string_bytes}
 use Rattle.std.specs.Str.Pattern.{FindsTextPrefix, StripsPrefix}
-use Rattle.cs_fresh.specs.Knowledge.{SkipsNothingShown}
+use Rattle.cs_project.specs.Knowledge.{SkipsNothingShown}
 use Rattle.cs_learned.specs.KnownProjects.{IsFoundIn, IsKnownFor}
 use Rattle.cs_learned.proofs.KnownProjectLemmas.{skips_nothing_shown, stripped}
 use Rattle.cs_learned.proofs.NotedLemmas.{notes_after}

@@ -1,6 +1,6 @@
 use Rattle.std.proofs.Common.{◌∙◌, false, ap, sym}
 use Rattle.std.specs.Prelude.{string_bytes}
-use Rattle.cs_fresh.specs.Searched.{binary_as}
+use Rattle.cs_project.specs.Searched.{binary_as}
 use Rattle.cs_known.specs.Skipped.{leaves_out, prints_unmatched}
 use Rattle.cs_learned.specs.ClosedStates.{AsksFor}
 use Rattle.cs_learned.proofs.StateKnowledgeLemmas.{still_known}

@@ -27,8 +27,8 @@ returns-then-self-eq0-clause-passed g c =
       room = omega arith;
     }
 
-pub show_lines-requires-clause-whole : goal.show_lines-requires-clause-whole
-show_lines-requires-clause-whole g c =
+pub show_lines-passed-requires-clause-whole : goal.show_lines-passed-requires-clause-whole
+show_lines-passed-requires-clause-whole g c =
     whole_rest c.args.block.now c.args.from (whole_from c.args.block.now c.args.held c.args.from c.requires.within.0 c.requires.whole.0)
 
 pub returns-clause-passed : goal.returns-clause-passed
@@ -37,13 +37,13 @@ returns-clause-passed g c =
     let r = c.requires in
     let old = c.args.self.now in
     let from = c.args.from in
-    let e = c.in_ok-passed.ensures in
-    let len = c.in_ok-passed.passed.len in
+    let e = c.show_lines-passed.ensures in
+    let len = c.show_lines-passed.result.len in
     let later = terminated_lines (drop from block) in
     let some : 0 < old.left = grind (arith, nat_tests, c.if-self-eq0.false) in
     let same = take_rest block from in
     let first = subst (λ text. IsFirstLines old.left text len) same e.len in
-    let count : c.in_ok-passed.passed.count ≡ length (take old.left later) =
+    let count : c.show_lines-passed.result.count ≡ length (take old.left later) =
     e.count ∙ ap (λ (text : List ℕ). length (take old.left (terminated_lines text))) same in
     let held = terminated_lines (take (from - c.args.held) (drop c.args.held block)) in
     let none : held ≡ [] = fits_some held old.left r.fits some in
@@ -53,7 +53,7 @@ returns-clause-passed g c =
       whole = whole_from block c.args.held (from + len) (omega (arith, r.within.0)) r.whole.0;
       lines = ap terminated_lines (sym (drop-drop len from block)) ∙ first.rest
           ∙ ap (λ (ls : List (List ℕ)). ls ++ drop old.left later) (sym none);
-      most = e.rows.1.1;
+      most = e.scan.1;
       left = ap (λ n. old.left - n) count;
       number = number;
       room = omega (arith, count, first_within old.left (drop from block) len first, r.within.0);
@@ -67,7 +67,7 @@ overflow_add-self g c =
       arith,
       c.requires.room,
       c.requires.within.1,
-      c.in_ok-passed.ensures.count,
+      c.show_lines-passed.ensures.count,
       count_within rest c.args.self.now.left,
       length-take (length block - c.args.from) (drop c.args.from block),
       length-drop c.args.from block,

@@ -1,47 +1,171 @@
-use Rattle.std.proofs.Common.{◌≡◌, ◌+◌, ◌-◌, ◌≤◌, ◌⊎◌, inl, inr, ◌++◌, ℕ, List, length, take, drop, refl, sym, ap, subst, ◌∙◌, arith, length-append, length-take, length-drop}
-use Rattle.std.proofs.lemmas.Bool.{cases_lt}
+use Rattle.std.proofs.Common.{◌≡◌, ◌+◌, ◌-◌, ◌≤◌, ◌⊎◌, inl, inr, ◌++◌, ℕ, true, false, List, length, take, drop, refl, sym, ap, subst, ◌∙◌, arith, length-append, length-take, length-drop}
+use Rattle.std.proofs.lemmas.Bool.{cases_lt, false≢true}
+use Rattle.std.proofs.lemmas.Bool.Decides.{nat_tests}
+use Rattle.std.proofs.lemmas.List.{take_all, take_rest}
 use Rattle.cs_match.specs.Lines.{terminated_lines}
+use Rattle.cs_match.specs.Skipping.{AreWholeLines}
+use Rattle.cs_match.proofs.LinesLemmas.{lines_within}
+use Rattle.cs_match.proofs.SkippedLineLemmas.{whole_none}
 use Rattle.cs_match.proofs.WholeLineLemmas.{ended_prefix, whole_drop}
+use Rattle.cs_lines.specs.Contexts.{Row}
 use Rattle.cs_lines.specs.Scans.{Fits, rows_by}
 use Rattle.cs_lines.specs.Shown.{is_wanted}
-use Rattle.cs_lines.specs.Spacing.{printed_by, progress_of}
-use Rattle.cs_lines.proofs.StreamLemmas.{trim_rows, fits_drop}
+use Rattle.cs_lines.specs.Spacing.{has_numbers, printed_by, progress_of, seen}
+use Rattle.cs_lines.specs.Streams.{IsTrimmed}
+use Rattle.cs_lines.specs.Work.{has_context}
+use Rattle.cs_lines.specs.declared.form.ShowOptions.{ShowOptions}
+use Rattle.cs_lines.specs.declared.rows.Rows.{Rows}
+use Rattle.cs_lines.proofs.NumberLemmas.{alike_by, alike_scan}
+use Rattle.cs_lines.proofs.StreamLemmas.{fits_drop, trim_rows}
 use Rattle.cs_lines.proofs.rows.Rows.trim.Goals as goal
 
-cases : (n before k : ℕ) → k ≡ n - (n - before) → (n - before ≡ 0) ⊎ (before ≤ k)
-cases n before k is = elim (cases_lt before n) [ inl low ↦ inr (omega (arith, is, low)) | inr high ↦ inl (omega (arith, high)) ]
+-- the first lines are dropped, `count` many if numbers matter
+module _ (old : Rows) (held : List ℕ) (start count : ℕ) (whole : AreWholeLines held) (fits : Fits (terminated_lines held) old.left)
+    (within : start ≤ length held) (first : AreWholeLines (take start held)) (few : count ≤ start)
+    (exact : has_numbers old.page.options.now ≡ true → count ≡ length (terminated_lines (take start held)))
+    (enough : (length (terminated_lines (take start held)) ≡ 0) ⊎ (old.page.options.now.before ≤ length (terminated_lines (drop start held)))) where
+  trimmed : IsTrimmed old (record old { number = old.number + count }) held start
+  trimmed =
+      let before = old.page.options.now.before in
+      let xs = terminated_lines (take start held) in
+      let ys = terminated_lines (drop start held) in
+      let split : terminated_lines held ≡ xs ++ ys = ended_prefix held start first in
+      let fits' : Fits (xs ++ ys) old.left = subst (λ (ls : List (List ℕ)). Fits ls old.left) split fits in
+      record {
+        within = within;
+        whole = whole_drop start held whole;
+        fits = fits_drop xs ys old.left fits';
+        page = refl;
+        room = omega (arith, few);
+        shown = (refl, refl);
+        rows = λ given finding later.
+            let wanted = is_wanted old.page.options.now finding.has_match in
+            let p = progress_of old given in
+            let n = old.number + length xs in
+            let m = old.number + count in
+            let right = rows_by (record old { number = n }) finding ys later in
+            let came = rows_by (record old { number = m }) finding ys later in
+            ap (λ (ls : List (List ℕ)). seen (printed_by old.page finding p (rows_by old finding ls later))) split
+            ∙ ap (λ (rs : List Row). seen (printed_by old.page finding p rs))
+            (trim_rows before old.page.options.now.after wanted later xs ys old.number old.left old.most fits' enough)
+            ∙ alike_by old.page finding right came p (λ numbers. ap (λ (i : ℕ). rows_by (record old { number = old.number + i }) finding ys later) (sym (exact numbers)))
+            (alike_scan before old.page.options.now.after wanted later n m old.left old.most ys);
+      }
 
-pub returns : goal.returns
-returns c =
+no_context : (options : ShowOptions) → false ≡ has_context options → options.before ≡ 0
+no_context options e = grind (arith, nat_tests, e)
+
+pub returns-then-not-has_context-clause-trimmed : goal.returns-then-not-has_context-clause-trimmed
+returns-then-not-has_context-clause-trimmed c =
     let old = c.args.self.now in
     let held = c.args.held.now in
-    let start = c.last_lines-start.result in
-    let last = c.last_lines-start.ensures in
-    let before = old.page.options.now.before in
+    let all = length held in
+    let size : all ≡ all - 0 = omega arith in
+    let full = take_all all held (omega arith) in
+    let none = no_context old.page.options.now (sym c.if-not-has_context.true ∙ c.has_context.ensures) in
+    subst (IsTrimmed old (record old { number = old.number + c.counted.result }) held) size
+    (trimmed old held all c.counted.result c.requires.whole c.requires.fits (omega arith) (subst AreWholeLines (sym full) c.requires.whole)
+    c.counted.ensures.within (λ numbers. c.counted.ensures.exact numbers ∙ ap (λ (t : List ℕ). length (terminated_lines t)) (sym full))
+    (inr (omega (arith, none))))
+
+pub returns-then-not-has_context-clause-counted : goal.returns-then-not-has_context-clause-counted
+returns-then-not-has_context-clause-counted c = record {
+  within = omega arith;
+  whole = whole_none;
+  lines = λ has. absurd (false≢true (sym c.if-not-has_context.true ∙ c.has_context.ensures ∙ has));
+}
+
+-- how many lines are held
+module _ (options : ShowOptions) (held : List ℕ) (len lines more : ℕ) (first : AreWholeLines (take len held))
+    (is : lines ≡ length (terminated_lines (take len held))) (rest : more ≡ length (terminated_lines (take (length held - len) (drop len held)))) where
+  all_lines : lines + more ≡ length (terminated_lines held)
+  all_lines =
+      let xs = terminated_lines (take len held) in
+      let ys = terminated_lines (drop len held) in
+      let same : length (terminated_lines (take (length held - len) (drop len held))) ≡ length ys = ap (λ (t : List ℕ). length (terminated_lines t)) (take_rest held len) in
+      omega (arith, is, rest, same, ap (λ (ls : List (List ℕ)). length ls) (ended_prefix held len first), length-append xs ys)
+
+pub overflow_add-lines : goal.overflow_add-lines
+overflow_add-lines c =
+    let held = c.args.held.now in
+    let known = c.requires.known in
+    let has = sym c.has_context.ensures ∙ c.if-not-has_context.false in
+    omega (
+      arith,
+      all_lines c.args.self.now.page.options.now held c.args.known.len c.args.known.lines c.line_count.result known.whole (known.lines has)
+          c.line_count.ensures.exact,
+      lines_within held,
+      c.requires.room,
+    )
+
+pub overflow_add-self-2 : goal.overflow_add-self-2
+overflow_add-self-2 c =
+    let held = c.args.held.now in
+    let known = c.requires.known in
+    let has = sym c.has_context.ensures ∙ c.if-not-has_context.false in
+    omega (
+      arith,
+      all_lines c.args.self.now.page.options.now held c.args.known.len c.args.known.lines c.line_count.result known.whole (known.lines has)
+          c.line_count.ensures.exact,
+      lines_within held,
+      c.requires.room,
+      c.saturating_sub-extra.ensures,
+    )
+
+-- the numbers of lines that are dropped and kept
+sizes : (held : List ℕ) (start extra all before : ℕ) → AreWholeLines (take start held) → terminated_lines (drop start held) ≡ drop extra (terminated_lines held) →
+    all ≡ length (terminated_lines held) → extra ≡ all - before →
+    (length (terminated_lines (take start held)) ≡ extra) × (length (terminated_lines (drop start held)) ≡ all - extra)
+sizes held start extra all before first rest is few =
     let xs = terminated_lines (take start held) in
     let ys = terminated_lines (drop start held) in
-    let all = terminated_lines held in
-    let split : all ≡ xs ++ ys = ended_prefix held start last.whole in
-    let sizes : length all ≡ length xs + length ys = ap (λ (ls : List (List ℕ)). length ls) split ∙ length-append xs ys in
-    let rest : length ys ≡ length all - (length all - before) = ap (λ (ls : List (List ℕ)). length ls) last.last ∙ length-drop (length all - before) all in
-    let fits : Fits (xs ++ ys) old.left = subst (λ (ls : List (List ℕ)). Fits ls old.left) split c.requires.fits in
-    let enough : (length xs ≡ 0) ⊎ (before ≤ length ys) =
-    elim (cases (length all) before (length ys) rest) [
-      | inl none ↦ inl (omega (arith, none, sizes, rest))
-      | inr some ↦ inr some
-    ] in
-    let count = c.line_count.ensures.exact in
+    let sum = ap (λ (ls : List (List ℕ)). length ls) (ended_prefix held start first) in
+    let last = ap (λ (ls : List (List ℕ)). length ls) rest in (
+      omega (arith, sum, length-append xs ys, last, length-drop extra (terminated_lines held), is, few),
+      omega (arith, last, length-drop extra (terminated_lines held), is),
+    )
+
+some_left : (xs ys extra all before : ℕ) → xs ≡ extra → ys ≡ all - extra → extra ≡ all - before → (xs ≡ 0) ⊎ (before ≤ ys)
+some_left xs ys extra all before a b few = elim (cases_lt before all) [ inl low ↦ inr (omega (arith, b, few, low)) | inr high ↦ inl (omega (arith, a, few, high)) ]
+
+pub returns-clause-trimmed : goal.returns-clause-trimmed
+returns-clause-trimmed c =
+    let old = c.args.self.now in
+    let held = c.args.held.now in
+    let known = c.requires.known in
+    let has = sym c.has_context.ensures ∙ c.if-not-has_context.false in
+    let e = c.first_lines-start.ensures in
+    let start = c.first_lines-start.result in
+    let extra = c.saturating_sub-extra.result in
+    let all = c.args.known.lines + c.line_count.result in
+    let before = old.page.options.now.before in
+    let is = all_lines old.page.options.now held c.args.known.len c.args.known.lines c.line_count.result known.whole (known.lines has) c.line_count.ensures.exact in
+    let few : extra ≡ all - before = omega (arith, c.saturating_sub-extra.ensures) in
+    let n = sizes held start extra all before e.whole e.rest is few in
+    let size : start ≡ length held - (length held - start) = omega (arith, e.within) in
+    subst (IsTrimmed old (record old { number = old.number + extra }) held) size
+    (trimmed old held start extra c.requires.whole c.requires.fits e.within e.whole
+    (omega (arith, n.0, lines_within (take start held), length-take start held)) (λ numbers. sym n.0)
+    (some_left (length (terminated_lines (take start held))) (length (terminated_lines (drop start held))) extra all before n.0 n.1 few))
+
+pub returns-clause-counted : goal.returns-clause-counted
+returns-clause-counted c =
+    let old = c.args.self.now in
+    let held = c.args.held.now in
+    let known = c.requires.known in
+    let has = sym c.has_context.ensures ∙ c.if-not-has_context.false in
+    let e = c.first_lines-start.ensures in
+    let start = c.first_lines-start.result in
+    let extra = c.saturating_sub-extra.result in
+    let all = c.args.known.lines + c.line_count.result in
+    let is = all_lines old.page.options.now held c.args.known.len c.args.known.lines c.line_count.result known.whole (known.lines has) c.line_count.ensures.exact in
+    let n = sizes held start extra all old.page.options.now.before e.whole e.rest is (omega (arith, c.saturating_sub-extra.ensures)) in
+    let size : length held - (length held - start) ≡ start = omega (arith, e.within) in
+    let rest = drop start held in
+    let full : take (length held - start) rest ≡ rest = take_all (length held - start) rest (omega (arith, length-drop start held)) in
+    let there : drop (length held - (length held - start)) held ≡ rest = ap (λ (k : ℕ). drop k held) size in
     record {
-      within = last.within;
-      whole = whole_drop start held c.requires.whole;
-      fits = fits_drop xs ys old.left fits;
-      page = refl;
-      room = omega (arith, c.line_count.ensures.within, length-take start held);
-      rows = λ given finding later.
-          let wanted = is_wanted old.page.options.now finding.has_match in
-          let p = progress_of old given in
-          ap (λ (ls : List (List ℕ)). printed_by old.page finding p (rows_by old finding ls later)) split
-          ∙ ap (printed_by old.page finding p)
-          (trim_rows before old.page.options.now.after wanted later xs ys old.number old.left old.most fits enough
-          ∙ ap (λ n. rows_by (record old { number = old.number + n }) finding ys later) (sym count));
+      within = omega (arith, ap (λ (t : List ℕ). length t) there, length-drop start held);
+      whole = subst AreWholeLines (sym (ap (take (length held - start)) there ∙ full)) (whole_drop start held c.requires.whole);
+      lines = λ _. sym n.1 ∙ ap (λ (t : List ℕ). length (terminated_lines t)) (sym (ap (take (length held - start)) there ∙ full));
     }

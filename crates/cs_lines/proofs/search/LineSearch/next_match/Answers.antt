@@ -1,4 +1,4 @@
-use Rattle.std.proofs.Common.{◌≡◌, ◌≤◌, ◌+◌, ◌-◌, ℕ, Bool, false, List, [], take, drop, refl, sym, subst, ◌∙◌, arith}
+use Rattle.std.proofs.Common.{◌≡◌, ◌≤◌, ◌+◌, ◌-◌, ℕ, Bool, false, List, [], length, take, drop, refl, sym, subst, ◌∙◌, arith}
 use Rattle.std.proofs.lemmas.Bool.{false≢true}
 use Rattle.std.proofs.lemmas.List.Elements.{All-nil, All-cons, All-append}
 use Rattle.cs_syntax.specs.Matching.{HasMatch}
@@ -9,10 +9,13 @@ use Rattle.cs_match.specs.Lines.{terminated_lines}
 use Rattle.cs_match.specs.Skipping.{AreWholeLines, NoneMatch}
 use Rattle.cs_match.proofs.SkippedLineLemmas.{whole_none}
 use Rattle.cs_match.proofs.WholeLineLemmas.{whole_from, whole_line, whole_between, none_between, terminated_line}
+use Rattle.cs_match.specs.Work.{WorksWithin}
 use Rattle.cs_lines.specs.Findings.{KeepsSearch, Tests}
+use Rattle.cs_lines.specs.Work.{line_weight, search_work}
 use Rattle.cs_lines.specs.declared.search.LineSearch.{LineSearch}
 use Rattle.cs_lines.proofs.BlockLemmas.{lines_from}
 use Rattle.cs_lines.proofs.FindingLemmas.{keeps_again, keeps_itself, matches_same, missed, none_match, tests_same}
+use Rattle.cs_lines.proofs.WorkLemmas.{matched_then, search_none}
 use Rattle.cs_lines.proofs.search.LineSearch.next_match.Goals as goal
 
 none_of : (test : List ℕ → Bool) → NoneMatch test (terminated_lines [])
@@ -30,6 +33,8 @@ lines-init c =
       before = subst (λ n. AreWholeLines (take n rest)) e whole_none;
       none = λ test tests. subst (λ n. NoneMatch test (terminated_lines (take n rest))) e (none_of test);
       same = keeps_itself c.args.self.now;
+      budget = refl;
+      work = search_none (line_weight c.args.self.now) (c.args.from - c.args.from) c.args.self.now.matcher (omega arith);
     }
 
 -- the search after its matcher has searched
@@ -105,6 +110,10 @@ lines-preserved c =
           (subst (NoneMatch test) (sym (terminated_line block start end e.order e.part e.newline))
           (All-cons (λ line. test line ≡ false) line [] miss (All-nil (λ line. test line ≡ false))));
       same = keeps_again self (with_matcher c.lines.self new) c.is_wanted.new.self kept c.is_wanted.ensures.same;
+      budget = c.is_wanted.ensures.budget ∙ i.budget;
+      work = subst (λ m. WorksWithin (search_work (line_weight self) (end + 1 - c.args.from)) self.matcher m) (sym c.is_wanted.ensures.matcher)
+          (matched_then self c.lines.self new (c.lines.start - c.args.from) (end + 1 - c.lines.start) (end + 1 - c.args.from)
+          i.same (omega (arith, i.low, e.low, e.order)) i.work all.work);
     }
 
 pub returns-clause-next : goal.returns-clause-next
@@ -118,3 +127,19 @@ returns-clause-next c = λ test tests.
     (i.none test tests)
     (none_match c.lines.self test other.0 (tests_same c.args.self.now c.lines.self i.same test tests) other.1 rest
     (c.in_default.ensures.none other.0 other.1)))
+
+pub returns-then-is_wanted-clause-work : goal.returns-then-is_wanted-clause-work
+returns-then-is_wanted-clause-work c =
+    let i = c.lines.invariant in
+    let e = c.in-Some.ensures in
+    let line = c.in-Some.line in
+    subst (λ m. WorksWithin (search_work (line_weight c.args.self.now) (line.end + 1 - c.args.from)) c.args.self.now.matcher m) (sym c.is_wanted.ensures.matcher)
+    (matched_then c.args.self.now c.lines.self c.next_match.new.self (c.lines.start - c.args.from) (line.end + 1 - c.lines.start) (line.end + 1 - c.args.from)
+    i.same (omega (arith, i.low, e.line.low, e.line.order)) i.work e.work)
+
+pub returns-clause-work : goal.returns-clause-work
+returns-clause-work c =
+    let i = c.lines.invariant in
+    let size = length c.args.block.now in
+    matched_then c.args.self.now c.lines.self c.next_match.new.self (c.lines.start - c.args.from) (size - c.lines.start) (size - c.args.from)
+    i.same (omega (arith, i.low, i.high)) i.work c.in_default.ensures.work

@@ -1,5 +1,5 @@
 use Rattle.std.proofs.Common.{sym, ap, arith, ◌∙◌, ◌-◌}
-use Rattle.cs_prefilter.specs.declared.steps.Steps.{Steps}
+use Rattle.cs_tree.specs.declared.steps.Steps.{Steps}
 use Rattle.cs_listing.specs.Models.{names}
 use Rattle.cs_listing.specs.Marks.{name_marks}
 use Rattle.cs_listing.proofs.MarkLemmas.{asked_more, asked_skipped, asked_found}

@@ -3,7 +3,7 @@ use Rattle.std.specs.Prelude.{Any}
 use Rattle.std.specs.Int.{trailing_zeros}
 use Rattle.std.specs.Int.Count.{trailing_of_zero}
 use Rattle.cs_prefilter.specs.declared.word.Word.{Word}
-use Rattle.cs_prefilter.specs.declared.steps.Steps.{Steps}
+use Rattle.cs_tree.specs.declared.steps.Steps.{Steps}
 use Rattle.cs_prefilter.specs.WordAt.{WordAt}
 use Rattle.cs_prefilter.proofs.BitLemmas.{lowest_within, lowest_rises}
 use Rattle.cs_prefilter.proofs.ScanLemmas.{none_before_lowest, none_cleared}

@@ -1,6 +1,6 @@
 use Rattle.std.proofs.Common.{◌≡◌, ℕ, ◌+◌, ◌-◌, Bool, cond, true≢false, List, length, take, drop, get_or, set, ap, sym, ◌∙◌, arith, length-take, length-drop, get_or-set_same}
 use Rattle.std.proofs.lemmas.List.{take_rest, get_or-drop}
-use Rattle.cs_prefilter.specs.declared.steps.Steps.{Steps}
+use Rattle.cs_tree.specs.declared.steps.Steps.{Steps}
 use Rattle.cs_prefilter.proofs.ScanLemmas.{none_found}
 use Rattle.cs_prefilter.proofs.ListedLemmas.{listed-gap, listed-line, listed-as, listed-rest}
 use Rattle.cs_prefilter.proofs.comparing.WordList.list.Goals as goal

@@ -17,7 +17,7 @@ returns-in_ok-print_fault-clause-prints g c = λ has_match decides.
     (fault_line_of tool name fault)) c.of_input.ensures c.in_ok-print_fault.ensures.written in
     Prints-input _ tool c.args.self.now.style has_match name (g.R.Source.model c.args.input.now) c.in_ok-answer.answer _
     _ (g.E.Sink.model c.args.err.now) (g.E.Sink.model c.print_fault.new.err)
-    (c.in_ok-answer.ensures.report has_match decides)
+    (c.in_ok-answer.ensures.report decides.0 decides.1 has_match decides.2)
     (subst (λ fault. Grows (g.E.Sink.model c.args.err.now) (g.E.Sink.model c.print_fault.new.err)
     (fault_text tool name fault)) (sym c.in-Some.is) written)
 
@@ -26,7 +26,7 @@ returns-in_default-clause-prints g c = λ has_match decides.
     let tool = c.args.self.now.tool in
     let name = c.args.name.now in
     Prints-input _ tool c.args.self.now.style has_match name (g.R.Source.model c.args.input.now) c.in_ok-answer.answer _
-    _ (g.E.Sink.model c.args.err.now) (g.E.Sink.model c.args.err.now) (c.in_ok-answer.ensures.report has_match decides)
+    _ (g.E.Sink.model c.args.err.now) (g.E.Sink.model c.args.err.now) (c.in_ok-answer.ensures.report decides.0 decides.1 has_match decides.2)
     (subst (λ fault. Grows (g.E.Sink.model c.args.err.now) (g.E.Sink.model c.args.err.now) (fault_text tool name fault))
     (sym c.in_default.is) (Grows-same (g.E.Sink.model c.args.err.now)))
 
@@ -48,7 +48,7 @@ returns-in_err-answer-clause-prints g c =
     rw p.1 (λ has_match decides.
     PrintsPrefix-input _ c.args.self.now.tool c.args.self.now.style has_match c.args.name.now
     (g.R.Source.model c.args.input.now) (g.O.Sink.model c.args.out.now) (g.O.Sink.model c.grep_within.new.out)
-    (g.E.Sink.model c.args.err.now) (c.in_err-answer.ensures.report has_match decides))
+    (g.E.Sink.model c.args.err.now) (c.in_err-answer.ensures.report decides.0 decides.1 has_match decides.2))
 
 pub returns-in_err-print_fault-clause-prints : goal.returns-in_err-print_fault-clause-prints
 returns-in_err-print_fault-clause-prints g c =
@@ -59,7 +59,7 @@ returns-in_err-print_fault-clause-prints g c =
     let err = g.E.Sink.model c.args.err.now in
     let later = g.E.Sink.model c.print_fault.new.err in
     PrintsPrefix-fault _ tool c.args.self.now.style has_match name (g.R.Source.model c.args.input.now)
-    c.in_ok-answer.answer c.in-Some.fault _ _ err later c.in-Some.is (c.in_ok-answer.ensures.report has_match decides)
+    c.in_ok-answer.answer c.in-Some.fault _ _ err later c.in-Some.is (c.in_ok-answer.ensures.report decides.0 decides.1 has_match decides.2)
     (subst (λ fault. TakesPrefix (fault_line_of tool name fault) err later) c.of_input.ensures c.in_err-print_fault.ensures.written))
 
 pub returns-in_default-clause-faults : goal.returns-in_default-clause-faults

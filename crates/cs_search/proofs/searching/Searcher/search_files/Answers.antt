@@ -2,7 +2,6 @@ use Rattle.std.proofs.Common.{◌+◌, ◌∷◌, [], ℕ, List, Option, take, d
 use Rattle.std.specs.Prelude.{option_map, map, string_bytes}
 use Rattle.std.proofs.lemmas.List.{take_all}
 use Rattle.std.proofs.lemmas.Result.{err_from_is_err_and}
-use Rattle.cs_match.specs.Deciding.{Decides}
 use Rattle.cs_args.specs.declared.jobs.Tool.{Tool}
 use Rattle.cs_tree.specs.Snapshot.{Snapshot}
 use Rattle.cs_tree.proofs.ReadCountLemmas.{reads_nothing, reads_on}
@@ -21,7 +20,7 @@ loop-name-init g c = record {
   faults = PrintsAllFaults-none c.args.self.now.tool done [] _ _ _ _ refl refl;
   out_failed = refl;
   err_failed = refl;
-  kept = record { tool = refl; style = refl; matcher = refl };
+  kept = record { tool = refl; style = refl; lines = λ tree is. is };
   reads = reads_nothing (max_searched + 1) (g.T.Tree.read_counts c.args.tree.now);
   keeps = refl;
 }
@@ -37,7 +36,7 @@ loop-name-preserved g c =
           let at = c.loop-name.name-index in
           let item = c.name-item.result in
           let file = λ (s : Snapshot) (name : List ℕ). file_printed max_searched self.tool self.style has_match s name in
-          let one = s.prints has_match (subst (Decides has_match) (sym i.kept.matcher) decides) in
+          let one = s.prints has_match (decides.0, i.kept.lines decides.0 decides.1, decides.2) in
           let tools = subst (λ t. Prints (option_map
           (λ (s : Snapshot). file_printed max_searched t c.loop-name.self.style has_match s c.as_str.result.now)
           (g.T.Tree.snapshot c.loop-name.tree)) (g.O.Sink.model c.loop-name.out) (g.O.Sink.model c.search_file.new.out)
@@ -77,7 +76,7 @@ loop-name-preserved g c =
           (g.T.Tree.failed c.loop-name.tree) _ _ (g.E.Sink.model c.loop-name.err) _ i.faults last);
       out_failed = s.counts.0.0 ∙ i.out_failed;
       err_failed = s.counts.0.1 ∙ i.err_failed;
-      kept = record { tool = s.kept.tool ∙ i.kept.tool; style = s.kept.style ∙ i.kept.style; matcher = s.kept.matcher ∙ i.kept.matcher };
+      kept = record { tool = s.kept.tool ∙ i.kept.tool; style = s.kept.style ∙ i.kept.style; lines = λ tree is. s.kept.lines tree (i.kept.lines tree is) };
       reads = reads_on (max_searched + 1) (g.T.Tree.read_counts c.args.tree.now) (g.T.Tree.read_counts c.loop-name.tree)
           (g.T.Tree.read_counts c.search_file.new.tree) i.reads s.tree.1;
       keeps = s.tree.0 ∙ i.keeps;
@@ -106,7 +105,7 @@ returns-in_err-matched-clause-prints g c =
     let file = λ (s : Snapshot) (name : List ℕ). file_printed max_searched self.tool self.style has_match s name in
     let Claim = λ (printed : Option Printed). PrintsPrefix printed (g.O.Sink.model c.loop-name.out)
     (g.O.Sink.model c.search_file.new.out) (g.E.Sink.model c.loop-name.err) (g.E.Sink.model c.search_file.new.err) in
-    let one = c.in_err-matched.ensures.prints has_match (subst (Decides has_match) (sym i.kept.matcher) decides) in
+    let one = c.in_err-matched.ensures.prints has_match (decides.0, i.kept.lines decides.0 decides.1, decides.2) in
     let tools = subst (λ t. Claim (option_map
     (λ (s : Snapshot). file_printed max_searched t c.loop-name.self.style has_match s c.as_str.result.now)
     (g.T.Tree.snapshot c.loop-name.tree))) i.kept.tool one in
@@ -158,3 +157,9 @@ returns-in_err-matched-clause-tree g c = (
   reads_on (max_searched + 1) (g.T.Tree.read_counts c.args.tree.now) (g.T.Tree.read_counts c.loop-name.tree)
       (g.T.Tree.read_counts c.search_file.new.tree) c.loop-name.invariant.reads c.in_err-matched.ensures.tree.1,
 )
+
+pub returns-in_err-matched-clause-kept : goal.returns-in_err-matched-clause-kept
+returns-in_err-matched-clause-kept g c =
+    let i = c.loop-name.invariant in
+    let s = c.in_err-matched.ensures in
+    record { tool = s.kept.tool ∙ i.kept.tool; style = s.kept.style ∙ i.kept.style; lines = λ tree is. s.kept.lines tree (i.kept.lines tree is) }

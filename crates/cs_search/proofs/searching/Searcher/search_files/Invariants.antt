@@ -1,17 +1,16 @@
 use Rattle.std.proofs.Common.{◌≡◌, ◌+◌, Bool, List, ℕ, take}
 use Rattle.std.specs.Prelude.{option_map, map, string_bytes}
-use Rattle.cs_match.specs.Deciding.{Decides}
 use Rattle.cs_tree.specs.Snapshot.{Snapshot}
 use Rattle.cs_tree.specs.Reads.{ReadsWithin}
 use Rattle.cs_search.specs.InputReport.{max_searched}
-use Rattle.cs_search.specs.Searcher.{Prints, IsKept, PrintsAllFaults}
+use Rattle.cs_search.specs.Searcher.{DecidesLines, Prints, IsKept, PrintsAllFaults}
 use Rattle.cs_search.specs.Printed.{file_printed, all_printed}
 use Rattle.cs_search.proofs.PrintedInputLemmas.{done}
 use Rattle.cs_search.proofs.searching.Searcher.search_files.Given as goal
 
 abbrev pub invariant-loop-name : goal.invariant-loop-name
 invariant-loop-name g l = record {
-  prints : (has_match : List ℕ → Bool) → Decides has_match l.initial.self.matcher.tree →
+  prints : (has_match : List ℕ → Bool) → DecidesLines has_match l.initial.self.lines →
       Prints (option_map (λ (tree : Snapshot). all_printed
       (file_printed max_searched l.initial.self.tool l.initial.self.style has_match tree)
       (map string_bytes (take l.name-index l.names))) (g.T.Tree.snapshot l.initial.tree)) (g.O.Sink.model l.initial.out)

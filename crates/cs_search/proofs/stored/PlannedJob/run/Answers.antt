@@ -26,6 +26,7 @@ returns-in_err-matched-clause-searches g c = λ bytes selected.
     let e = c.in_err-matched.ensures in
     let fault = c.in_err-matched.field-0.0 in
     let searcher = c.in_ok-searcher.searcher in
+    let is = c.in_ok-searcher.ensures in
     let out = g.O.Sink.model c.args.out.now in
     let out-now = g.O.Sink.model c.search_files.new.out in
     let err = g.E.Sink.model c.args.err.now in
@@ -33,9 +34,9 @@ returns-in_err-matched-clause-searches g c = λ bytes selected.
     rw (p.1, p.2) (searches_selected c.args.self.now.job.now c.args.self.now.plan.now c.requires bytes c.args.names.now selected
     (g.T.Tree.snapshot c.args.tree.now) (g.T.Tree.failed c.args.tree.now) (g.T.Tree.failed c.search_files.new.tree)
     (outputs_of out out-now err err-now) (Err fault) c.matching_is_decidable.ensures searcher.tool searcher.style
-    searcher.matcher.tree c.in_ok-searcher.ensures.0 c.in_ok-searcher.ensures.1 c.in_ok-searcher.ensures.2
-    (same_fault fault e.counts.1)
-    (λ has_match decides. PrintsAnswer-prefix _ fault out out-now err err-now (e.prints has_match decides))
+    is.tool is.style (same_fault fault e.counts.1)
+    (λ has_match decides. PrintsAnswer-prefix _ fault out out-now err err-now
+    (e.prints has_match (c.args.self.now.plan.now.program, is.lines, decides)))
     e.faults)
 
 pub returns-in_err-matched-clause-silent : goal.returns-in_err-matched-clause-silent
@@ -50,6 +51,7 @@ returns-clause-searches g c = λ bytes selected.
     let e = c.in_ok-matched.ensures in
     let f = c.finish.ensures in
     let searcher = c.in_ok-searcher.searcher in
+    let is = c.in_ok-searcher.ensures in
     let out = g.O.Sink.model c.args.out.now in
     let out-now = g.O.Sink.model c.search_files.new.out in
     let out-later = g.O.Sink.model c.finish.new.out in
@@ -59,9 +61,9 @@ returns-clause-searches g c = λ bytes selected.
     searches_selected c.args.self.now.job.now c.args.self.now.plan.now c.requires bytes c.args.names.now selected
     (g.T.Tree.snapshot c.args.tree.now) (g.T.Tree.failed c.args.tree.now) (g.T.Tree.failed c.search_files.new.tree)
     (outputs_of out out-later err err-later) c.finish.result c.matching_is_decidable.ensures searcher.tool searcher.style
-    searcher.matcher.tree c.in_ok-searcher.ensures.0 c.in_ok-searcher.ensures.1 c.in_ok-searcher.ensures.2 f.counts.1
+    is.tool is.style f.counts.1
     (λ has_match decides. PrintsAnswer-ended out out-now out-later err err-now err-later _ c.in_ok-matched.matched c.finish.result
-    (e.prints has_match decides) f.out f.err f.status)
+    (e.prints has_match (c.args.self.now.plan.now.program, is.lines, decides)) f.out f.err f.status)
     (PrintsFaults-flushed searcher.tool c.finish.result (map string_bytes c.args.names.now) (g.T.Tree.failed c.args.tree.now)
     (g.T.Tree.failed c.search_files.new.tree) err err-now err-later e.faults f.err)
 

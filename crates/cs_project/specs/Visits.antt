@@ -1,0 +1,80 @@
+-- What a walk promises of the items that it visits, whatever is done with them.
+use Rattle.std.specs.Prelude.{ℕ, ◌≡◌, ◌⊎◌, Bool, false, List, [], ◌∷◌, ◌++◌, Option, IfSome, OnOk, Result, string_bytes}
+use Rattle.cs_tree.specs.Snapshot.{Snapshot, item_at}
+use Rattle.cs_lines.specs.Findings.{Finding, IsFoundBy}
+use Rattle.cs_listing.specs.Listing.{TreeItems}
+use Rattle.cs_listing.specs.Stamps.{Stamps}
+use Rattle.cs_project.specs.Knowledge.{SearchedTree}
+use Rattle.cs_project.specs.Searched.{NamedItem, ShowsItems, names_printed}
+use Rattle.cs_project.specs.Sources.{FindsAmong}
+use Rattle.cs_project.specs.declared.file_search.FileSearch.{FileSearch}
+use Rattle.cs_project.specs.declared.listing.NameListing.{NameListing}
+use Rattle.cs_project.specs.declared.walks.NamedPath.{NamedPath}
+
+-- what is known holds for the searches that a visitor asks it for
+abbrev pub KnowsFor : {V : Type 0} → (V → TreeItems → Stamps → SearchedTree → Type 0) → (SearchedTree → Type 0) →
+    (Snapshot → Stamps) → Option Snapshot → V → Type 0
+KnowsFor Asks Holds stamps snapshot visitor =
+    IfSome snapshot (λ tree. (searched : SearchedTree) → Asks visitor (item_at tree) (stamps tree) searched → Holds searched)
+
+-- the item of a file that a walk met
+abbrev pub met_item : TreeItems → NamedPath → NamedItem
+met_item items file = (string_bytes file.name, items (string_bytes file.path), false)
+
+-- The first items were visited, with what was printed a beginning of what is printed for them. Without an error that is printed,
+-- and they are all, unless the visits ended early.
+module _ {V : Type 0} (Begins Visits : V → V → List NamedItem → List ℕ → List ℕ → Type 0) (is_done : V → Bool) where
+  abbrev pub VisitsSome : {A E : Type 0} → (List NamedItem → Type 0) → (List NamedItem → Type 0) → V → V → List ℕ → List ℕ → Result A E → Type 0
+  VisitsSome AreFirst AreAll old new given later result = (named : List NamedItem) × AreFirst named
+      × Begins old new named given later
+      × OnOk result (Visits old new named given later × (is_done new ≡ false → AreAll named))
+
+-- These items are what is there; if no error was reported, they are what was asked for.
+abbrev pub AreAnswered : {V : Type 0} → (V → Bool) → V → (List NamedItem → Type 0) → (List NamedItem → Type 0) → List NamedItem → Type 0
+AreAnswered is_wrong new AreThere AreAsked named = AreThere named × (is_wrong new ≡ false → AreAsked named)
+
+-- one item was visited
+module _ {V : Type 0} (Begins Visits : V → V → List NamedItem → List ℕ → List ℕ → Type 0) where
+  abbrev pub VisitsOne : {A E : Type 0} → V → V → NamedItem → List ℕ → List ℕ → Result A E → Type 0
+  VisitsOne old new item given later result =
+      Begins old new (item ∷ []) given later × OnOk result (Visits old new (item ∷ []) given later)
+
+-- Visits that follow visits are visits of both.
+pub record Follows {V : Type 0} (Asks : V → TreeItems → Stamps → SearchedTree → Type 0) (is_wrong : V → Bool) (Stays : V → V → Type 0)
+    (Begins Visits : V → V → List NamedItem → List ℕ → List ℕ → Type 0) : Type 0 where
+  pub itself : (x : V) → Stays x x
+  pub again : (x y z : V) → Stays x y → Stays y z → Stays x z
+  pub right : (x y : V) → Stays x y → is_wrong y ≡ false → is_wrong x ≡ false
+  pub asked : (x y : V) → Stays x y → (items : TreeItems) → (stamps : Stamps) → (searched : SearchedTree) →
+      Asks y items stamps searched → Asks x items stamps searched
+  pub none : (x : V) → (bytes : List ℕ) → Begins x x [] bytes bytes × Visits x x [] bytes bytes
+  pub visits : (x y z : V) → (items more : List NamedItem) → (given middle later : List ℕ) → Stays x y → Stays y z →
+      Visits x y items given middle → Visits y z more middle later → Visits x z (items ++ more) given later
+  pub begins : (x y z : V) → (items more : List NamedItem) → (given middle later : List ℕ) → Stays x y → Stays y z →
+      Begins x y items given middle → Visits x y items given middle → Begins y z more middle later →
+      Begins x z (items ++ more) given later
+
+-- ---- a search
+
+abbrev pub IsAmong : NamedItem → List NamedItem → Type 0
+IsAmong one [] = ⊥
+IsAmong one (item ∷ items) = (one ≡ item) ⊎ IsAmong one items
+
+-- What is printed for the items was printed, and a marked line is one of theirs.
+abbrev pub SearchesItems : FileSearch → FileSearch → List NamedItem → List ℕ → List ℕ → Type 0
+SearchesItems old new items given later = ShowsItems old new items given later × FindsAmong old new (λ one. IsAmong one items)
+
+-- a search asks what is known for each of its findings
+abbrev pub AsksFor : FileSearch → TreeItems → Stamps → SearchedTree → Type 0
+AsksFor search items stamps searched = (finding : Finding) × IsFoundBy finding search.search × (searched ≡ record {
+  options = search.options;
+  binary = search.binary;
+  finding = finding;
+  items = items;
+  stamps = stamps;
+})
+
+-- ---- a listing
+
+abbrev pub ListsItems : NameListing → NameListing → List NamedItem → List ℕ → List ℕ → Type 0
+ListsItems old new items given later = later ≡ given ++ names_printed old.end.now items

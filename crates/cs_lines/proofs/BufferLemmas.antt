@@ -57,12 +57,6 @@ module _ (buffer : LineBuffer) (bytes : List ℕ) (before : take buffer.end byte
       ap (λ l. take (buffer.end + n - buffer.start) (drop buffer.start l)) bytes_are
       ∙ slice_more buffer.bytes.items (drop buffer.end bytes) buffer.start buffer.end buffer.ordered inside n
 
-  pub pending_same : take (buffer.end - buffer.start) (drop buffer.start bytes) ≡ pending_bytes buffer
-  unfolding pending_bytes
-  pending_same =
-      ap (λ l. take (buffer.end - buffer.start) (drop buffer.start l)) bytes_are
-      ∙ slice_same buffer.bytes.items (drop buffer.end bytes) buffer.start buffer.end buffer.ordered inside
-
 pub pending_size : (buffer : LineBuffer) → length (pending_bytes buffer) + buffer.start ≡ buffer.end
 unfolding pending_bytes
 pending_size buffer =

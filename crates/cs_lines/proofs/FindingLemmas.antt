@@ -5,27 +5,13 @@ use Rattle.std.proofs.lemmas.Bool.{false≢true}
 use Rattle.cs_syntax.specs.Matching.{Tree, HasMatch}
 use Rattle.cs_match.specs.Deciding.{Decides}
 use Rattle.cs_match.specs.Skipping.{NoneMatch}
-use Rattle.cs_match.specs.Span.{HasNoMatchOf, IsFirstOf, AreSpansFrom}
-use Rattle.cs_match.specs.declared.spans.Span.{Span as A_span}
+use Rattle.cs_match.specs.Span.{AreSpansFrom}
 use Rattle.cs_lines.specs.Findings.{Finding, HasWord, Matches, Tests, TestsMatches, IsFoundBy, KeepsSearch, SearchesLines, StopsBySpans, found_tree, has_stopped, of_lines}
 use Rattle.cs_lines.specs.Forms.{Span}
 use Rattle.cs_lines.specs.Printing.{needs_spans}
 use Rattle.cs_lines.specs.declared.rows.Page.{Page}
 use Rattle.cs_lines.specs.declared.search.LineSearch.{LineSearch}
 use Rattle.cs_lines.specs.declared.search.SpanSearch.{SpanSearch}
-
--- the search for a whole word
-pub word_found : (t : Tree) (line : List ℕ) (found : Option A_span) →
-    MatchOption found (HasNoMatchOf true t line 0 0) (λ span. IsFirstOf true t line 0 0 span.start span.end) →
-    IsTrue (is_some found) ↔ HasWord t line
-word_found t line None none = (λ e. absurd (false≢true e), λ w. absurd (none w.0 w.1 w.2))
-word_found t line (Some span) first = (λ e. (span.start, span.end, first.is), λ w. refl)
-
--- the search for a match that is wanted
-pub wanted_found : (whole wanted : Bool) (t : Tree) (line : List ℕ) → (whole ≡ true → IsTrue wanted ↔ HasWord t line) → (whole ≡ false → wanted ≡ true) →
-    IsTrue wanted ↔ (whole ≡ true → HasWord t line)
-wanted_found true wanted t line h k = (λ e _. (h refl).0 e, λ w. (h refl).1 (w refl))
-wanted_found false wanted t line h k = (λ e w. absurd (false≢true w), λ _. k refl)
 
 -- a line that does not match
 pub missed : (search : LineSearch) (test : List ℕ → Bool) → Tests test search → (line : List ℕ) → ¬ Matches search line → test line ≡ false
@@ -64,9 +50,6 @@ matches_same old new same line h = (
 pub tests_same : (old new : LineSearch) → KeepsSearch old new → (test : List ℕ → Bool) → Tests test old → Tests test new
 tests_same old new same test tests line =
     (λ e. same_matches old new same line ((tests line).0 e), λ h. (tests line).1 (matches_same old new same line h))
-
-pub finds_same : (old new : LineSearch) → KeepsSearch old new → (test : List ℕ → Bool) → TestsMatches test old → TestsMatches test new
-finds_same old new same test finds = subst (λ t. (line : List ℕ) → IsTrue (test line) ↔ HasMatch t line) (sym same.0) finds
 
 abbrev AreSpans : Option Tree → Bool → List ℕ → List Span → Type 0
 AreSpans t whole line spans = MatchOption t (spans ≡ []) (λ tree. AreSpansFrom true whole tree line 0 0 spans)

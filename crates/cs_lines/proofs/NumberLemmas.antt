@@ -3,10 +3,11 @@ use Rattle.std.proofs.Common.{◌≡◌, ℕ, ◌+◌, ◌-◌, Bool, true, fals
 use Rattle.std.specs.List.{flat_map}
 use Rattle.std.proofs.lemmas.Bool.{false≢true}
 use Rattle.std.proofs.lemmas.Bool.Decides.{nat_tests}
+use Rattle.std.proofs.lemmas.Grind.{common_steps}
 use Rattle.cs_match.specs.Lines.{newline}
 use Rattle.cs_lines.specs.Contexts.{Row, row_at, is_open, one_less}
 use Rattle.cs_lines.specs.Findings.{Finding}
-use Rattle.cs_lines.specs.Forms.{Span, column_part, dyed, first_column, is_filled, marked_bytes, match_bytes, name_part, painted, prefix_of, separated, whole_bytes}
+use Rattle.cs_lines.specs.Forms.{Span, column_part, dyed, first_column, is_filled, marked_bytes, match_bytes, name_part, number_part, painted, prefix_of, row_bytes, separated, whole_bytes}
 use Rattle.cs_lines.specs.Printing.{needs_spans}
 use Rattle.cs_lines.specs.Scans.{PrintsAlike, Scan, last_rows, rows_at, scan_of, scan_rows}
 use Rattle.cs_lines.specs.Shown.{gap, is_wanted, shown_bytes}
@@ -171,6 +172,27 @@ plain_alone options plain =
     not_true : (b : Bool) → not b ≡ true → b ≡ false
     not_true true e = sym e
     not_true false e = refl
+
+-- a marked line in a plain row
+pub plain_row : (options : ShowOptions) (finding : Finding) (name : List ℕ) (n : ℕ) (line : List ℕ) → needs_spans options.form ≡ false →
+    shown_bytes options finding name (row_at n line true)
+    ≡ name_part options.form name true ++ (number_part options.form n true ++ (line ++ newline ∷ []))
+plain_row options finding name n line plain = by (finding.spans line)
+  where
+    by : (spans : List Span) → row_bytes options.form name (row_at n line true) spans
+        ≡ name_part options.form name true ++ (number_part options.form n true ++ (line ++ newline ∷ []))
+    by [] = grind (arith, common_steps, plain)
+    by (span ∷ spans) = grind (arith, common_steps, plain)
+
+-- before a plain row nothing is printed but what is before the first one
+pub plain_before : (options : ShowOptions) (opening : List ℕ) (shown : Bool) (next n : ℕ) → (options.before ≡ 0) × (options.after ≡ 0) →
+    before_row opening (gap options) shown next n ≡ (if shown then [] else opening)
+plain_before options opening false next n alone = refl
+plain_before options opening true next n alone = by (nat_eq n next) (grind (arith, nat_tests, alone.0, alone.1))
+  where
+    by : (same : Bool) → gap options ≡ [] → (if same then [] else gap options) ≡ []
+    by true none = refl
+    by false none = none
 
 -- a marked line after held ones; the first one that is shown has the number n
 module _ (old new : Rows) (given given' : List ℕ) (finding : Finding) (held more : List (List ℕ)) (line : List ℕ) (n : ℕ) where

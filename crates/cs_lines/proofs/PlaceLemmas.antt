@@ -21,7 +21,7 @@ use Rattle.cs_lines.specs.Findings.{AreSpansIn, Finding, IsFoundBy, KeepsSearch,
 use Rattle.cs_lines.specs.Forms.{Span}
 use Rattle.cs_tree.specs.SinkOutputs.{Begins}
 use Rattle.cs_lines.specs.Printing.{needs_spans}
-use Rattle.cs_lines.specs.Scans.{BeginsMarks, Fits, IsMarkShown, IsNextLine, IsPassed, IsPlaced, Marks, MarksLine, NoneMarked, PrintsAlike, Scan, held_at, lines_at, rows_at, rows_by, scan_of, scan_rows}
+use Rattle.cs_lines.specs.Scans.{BeginsMarks, Fits, IsMarkShown, IsPassed, IsPlaced, Marks, NoneMarked, PrintsAlike, Scan, held_at, lines_at, rows_at, rows_by, scan_of, scan_rows}
 use Rattle.cs_lines.specs.Shown.{gap, is_wanted, shown_bytes}
 use Rattle.cs_lines.specs.Spacing.{IsPrinted, opening_of, printed_by, progress_of, seen, spaced}
 use Rattle.cs_lines.specs.declared.rows.Page.{Page}
@@ -172,6 +172,37 @@ begins_here search search' rows given place none finding later found =
 
 -- ---- a marked line, after lines that are not
 
+-- a line of the block from a place on: the lines between are whole
+pub record IsNextLine (rows : Rows) (place : Place) (start end : ℕ) : Type 0 where
+  pub order : place.held ≤ place.at
+  pub whole : AreWholeLines (drop place.held place.block.now)
+  pub between : AreWholeLines (take (place.at - place.held) (drop place.held place.block.now))
+  pub fits : Fits (held_at place) rows.left
+  pub line : IsLineAfter place.block.now place.at start end
+
+pub placed_line : (search : LineSearch) (rows : Rows) (place : Place) (start end : ℕ) → IsPlaced search rows place start →
+    IsLineAfter place.block.now start start end → IsNextLine rows place start end
+placed_line search rows place start end p line = record {
+  order = p.order;
+  whole = p.whole;
+  between = p.between;
+  fits = p.fits;
+  line = record {
+    low = p.lines.low;
+    order = line.order;
+    high = line.high;
+    before = p.lines.whole;
+    part = line.part;
+    newline = line.newline;
+  };
+}
+
+same_at : (p q : Place) → p.block ≡ q.block → p.held ≡ q.held → p.at ≡ q.at → p ≡ q
+same_at p q block held at =
+    ap (λ b. let r : Place = record { block = b; held = p.held; at = p.at } in r) block
+    ∙ ap (λ (n : ℕ). let r : Place = record { block = q.block; held = n; at = p.at } in r) held
+    ∙ ap (λ (n : ℕ). let r : Place = record { block = q.block; held = q.held; at = n } in r) at
+
 module _ (old mid new : Rows) (g0 g1 g2 : List ℕ) (place : Place) (held start end : ℕ) (spans : List Span) (next : IsNextLine old place start end)
     (passed : IsPassed old mid (take start place.block.now) place.held place.at held)
     (printed : IsPrinted old mid g0 g1 (rows_at old.number (take old.left (terminated_lines (drop place.at (take start place.block.now))))))
@@ -231,6 +262,30 @@ module _ (old mid new : Rows) (g0 g1 g2 : List ℕ) (place : Place) (held start 
       ∙ shown.1 finding (λ needs. spanned (subst (λ (page : Page). needs_spans page.options.now.form ≡ true) printed.1 needs))
       (subst (λ (page : Page). is_wanted page.options.now finding.has_match line ≡ true) (sym printed.1) is) more
 
+  pub line_marked : (search search' : LineSearch) (place' : Place) → IsPlaced search old place start →
+      ((test : List ℕ → Bool) → Tests test search → is_wanted old.page.options.now test (take (end - start) (drop start block)) ≡ true) →
+      (has_stopped search' ≡ false → (finding : Finding) → IsFoundBy finding search → needs_spans old.page.options.now.form ≡ true →
+      finding.spans (take (end - start) (drop start block)) ≡ spans) →
+      place'.block ≡ place.block → place'.held ≡ end + 1 → place'.at ≡ end + 1 →
+      new.number ≤ mid.number + length (take (start - held) (drop held block)) + 1 →
+      Marks search search' old new g0 g2 place place' (end + 1)
+  line_marked search search' place' p wanted spanned is held_is at room =
+      let last : Place = record { block = place.block; held = end + 1; at = end + 1 } in
+      let line = next.line in
+      let rest = whole_from block place.held (end + 1) (omega (arith, next.order, line.low, line.order)) next.whole in
+      let zero : end + 1 - (end + 1) ≡ 0 = omega arith in
+      let none : held_at last ≡ [] = ap (λ (n : ℕ). terminated_lines (take n (drop (end + 1) block))) zero ∙ none_of in
+      subst (λ (q : Place). Marks search search' old new g0 g2 place q (end + 1)) (sym (same_at place' last is held_is at)) (record {
+        placed = placed_after search' new last (end + 1) refl refl (omega (arith, line.high)) rest;
+        block = refl;
+        page = shown.0 ∙ printed.1;
+        room = omega (arith, room, passed.room, line.order, line.high, passed.within, length-take start block, length-take (start - held) (drop held block));
+        rises = omega (arith, next.order, line.low, line.order);
+        rows = λ none_stopped finding later found.
+            mark_rows finding (spanned none_stopped finding found) (wanted finding.has_match found.0) (p.unmarked finding.has_match found.0) later
+            ∙ ap (λ (ls : List (List ℕ)). seen (printed_by new.page finding (progress_of new g2) (rows_by new finding ls (lines_at last ++ later)))) (sym none);
+      })
+
 -- what passing lines asks for
 module _ (rows : Rows) (place : Place) (start end : ℕ) (next : IsNextLine rows place start end) where
   in_block : start ≤ length place.block.now
@@ -248,42 +303,6 @@ module _ (rows : Rows) (place : Place) (start end : ℕ) (next : IsNextLine rows
   pub cut_fits : Fits (terminated_lines (take (place.at - place.held) (drop place.held (take start place.block.now)))) rows.left
   cut_fits = subst (λ (t : List ℕ). Fits (terminated_lines t) rows.left)
       (sym (cut_part place.block.now start in_block place.held place.at next.order next.line.low)) next.fits
-
--- ---- a marked line is searched
-
-same_at : (p q : Place) → p.block ≡ q.block → p.held ≡ q.held → p.at ≡ q.at → p ≡ q
-same_at p q block held at =
-    ap (λ b. let r : Place = record { block = b; held = p.held; at = p.at } in r) block
-    ∙ ap (λ (n : ℕ). let r : Place = record { block = q.block; held = n; at = p.at } in r) held
-    ∙ ap (λ (n : ℕ). let r : Place = record { block = q.block; held = q.held; at = n } in r) at
-
-pub marks_line : (search search' : LineSearch) (old new : Rows) (given given' : List ℕ) (place place' : Place) (start end : ℕ) (spans : List Span) →
-    IsPlaced search old place start → IsLineAfter place.block.now start start end →
-    ((test : List ℕ → Bool) → Tests test search → is_wanted old.page.options.now test (take (end - start) (drop start place.block.now)) ≡ true) →
-    (has_stopped search' ≡ false → (finding : Finding) → IsFoundBy finding search → needs_spans old.page.options.now.form ≡ true →
-    finding.spans (take (end - start) (drop start place.block.now)) ≡ spans) →
-    MarksLine old new given given' place place' start end spans → Marks search search' old new given given' place place' (end + 1)
-marks_line search search' old new given given' place place' start end spans p line wanted spanned m =
-    subst (λ (q : Place). Marks search search' old new given given' place q (end + 1)) (sym (same_at place' next m.block m.held m.at)) (record {
-      placed = after;
-      block = refl;
-      page = m.page;
-      room = m.room;
-      rises = omega (arith, p.order, p.lines.low, line.order);
-      rows = λ none finding later found.
-          m.rows finding (spanned none finding found) (wanted finding.has_match found.0) (p.unmarked finding.has_match found.0) later
-          ∙ ap (λ (ls : List (List ℕ)). seen (printed_by new.page finding (progress_of new given') (rows_by new finding ls (lines_at next ++ later)))) (sym held);
-    })
-  where
-    next : Place
-    next = record { block = place.block; held = end + 1; at = end + 1 }
-
-    after : IsPlaced search' new next (end + 1)
-    after = placed_after search' new next (end + 1) refl refl (omega (arith, line.high))
-        (whole_from place.block.now place.held (end + 1) (omega (arith, p.order, p.lines.low, line.order)) p.whole)
-
-    held : held_at next ≡ []
-    held = let zero : end + 1 - (end + 1) ≡ 0 = omega arith in ap (λ (n : ℕ). terminated_lines (take n (drop (end + 1) place.block.now))) zero ∙ none_of
 
 -- ---- answers
 

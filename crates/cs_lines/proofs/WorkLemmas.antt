@@ -1,7 +1,6 @@
 -- Sums of steps.
-use Rattle.std.proofs.Common.{◌≡◌, ◌≤◌, ℕ, ◌+◌, ◌*◌, ◌-◌, Bool, true, false, if◌then◌else◌, List, [], ◌++◌, Option, length, take, drop, refl, sym, ap, subst, ◌∙◌, arith, length-append, length-drop, length-take}
+use Rattle.std.proofs.Common.{◌≡◌, ◌≤◌, ℕ, ◌+◌, ◌*◌, ◌-◌, Bool, true, false, if◌then◌else◌, List, [], ◌++◌, Option, length, take, drop, refl, sym, ap, ◌∙◌, arith, length-append, length-drop, length-take}
 use Rattle.cs_prefilter.specs.OffsetWork.{offset_work}
-use Rattle.cs_syntax.specs.Matching.{Tree}
 use Rattle.cs_tree.specs.ConsumesAtMost.{ConsumesAtMost}
 use Rattle.cs_tree.specs.StreamModels.{SourceModel}
 use Rattle.cs_tree.specs.Transfers.{Consumes}
@@ -9,7 +8,6 @@ use Rattle.cs_tree.proofs.ConsumesLemmas.{Consumes_few}
 use Rattle.cs_match.specs.LastPart.{last_part}
 use Rattle.cs_match.specs.NoNewline.{HasNoNewline}
 use Rattle.cs_match.specs.Skipping.{AreWholeLines}
-use Rattle.cs_match.proofs.LinesLemmas.{last_part-append, lines_within}
 use Rattle.cs_match.proofs.WholeLineLemmas.{rest_is_last}
 use Rattle.cs_match.specs.Automaton.{Automaton}
 use Rattle.cs_match.specs.Work.{byte_work, WorksWithin}
@@ -25,6 +23,9 @@ mul_both k p t w h g = grind arith
 
 add_both : (a b k : ℕ) → (a + b) * k ≡ a * k + b * k
 add_both a b k = grind arith
+
+times_more : (t a b : ℕ) → t * (a + b) ≡ t * a + t * b
+times_more t a b = grind arith
 
 one_more : (n k : ℕ) → n * k + n ≡ n * (k + 1)
 one_more n k = grind arith
@@ -48,9 +49,6 @@ works_any n matcher = (omega arith, omega arith)
 
 pub works_still : (n : ℕ) (old new : Automaton) → WorksWithin n old new → WorksWithin (n + 0) old new
 works_still n old new works = works_fewer n (n + 0) old new (omega arith) works
-
-pub works_none : (matcher : Automaton) → WorksWithin 0 matcher matcher
-works_none matcher = (omega arith, omega arith)
 
 module _ (w : ℕ) where
   pub searched_more : (a b : ℕ) → searched_work w (a + b) ≡ searched_work w a + searched_work w b
@@ -82,27 +80,6 @@ module _ (w : ℕ) where
       searched_fewer _ _
       (omega (arith, within, length-take stop text, length-drop stop text, ap (λ (b : List ℕ). length b) (rest_is_last text stop whole rest)))
 
-  -- the steps of a text, and of the next block
-  pub ended_more : (text piece : List ℕ) → ended_work w (text ++ piece) ≡ ended_work w text + ended_work w (last_part text ++ piece)
-  ended_more text piece =
-      let next = last_part text ++ piece in
-      let size : length (text ++ piece) - length (last_part (text ++ piece)) ≡ length text - length (last_part text)
-      + (length next - length (last_part next)) =
-      omega (
-        arith,
-        length-append text piece,
-        length-append (last_part text) piece,
-        ap (λ (b : List ℕ). length b) (last_part-append text piece),
-        lines_within text,
-        lines_within next,
-      ) in
-      ap (searched_work w) size ∙ searched_more _ _
-
--- the weight, by the program
-pub weight_of : (search : LineSearch) (tree : Tree) → search.matcher.tree ≡ tree → line_weight search ≡ byte_work tree
-unfolding line_weight
-weight_of search tree is = ap byte_work is
-
 -- the weight is the same
 pub same_weight : (old new : LineSearch) → KeepsSearch old new → line_weight new ≡ line_weight old
 unfolding line_weight
@@ -121,9 +98,6 @@ pub matched_then : (old mid : LineSearch) (new : Automaton) (a b n : ℕ) → Ke
 unfolding line_weight
 matched_then old mid new a b n same size first next =
     search_then (line_weight old) (line_weight mid) a b n old.matcher mid.matcher new (same_weight old mid same) size first next
-
-pub search_none : (w n : ℕ) (old : Automaton) → n ≡ 0 → WorksWithin (search_work w n) old old
-search_none w n old e = (omega arith, omega arith)
 
 pub search_is_searched : (w a n : ℕ) (old new : Automaton) → a ≤ n → WorksWithin (search_work w a) old new → WorksWithin (searched_work w n) old new
 search_is_searched w a n old new few works =
@@ -188,25 +162,12 @@ text_done w v old mid done new text end rest same few first next last =
 
 -- ---- lines that are passed to be shown
 
--- nothing is passed
-pub walks_none : (times n : ℕ) (old : Automaton) → WorksWithin (times * (n - n)) old old
-walks_none times n old = (omega arith, by (n - n) (omega arith))
-  where
-    by : (k : ℕ) → k ≡ 0 → old.steps ≤ old.steps + times * k
-    by k zero = grind arith
-
-pub walks_to : (times from a b : ℕ) (old new : Automaton) → a ≡ b → WorksWithin (times * (a - from)) old new → WorksWithin (times * (b - from)) old new
-walks_to times from a b old new is works = subst (λ n. WorksWithin (times * (n - from)) old new) is works
-
 pub walks_on : (times from mid to : ℕ) (old between new : Automaton) → from ≤ mid → mid ≤ to → WorksWithin (times * (mid - from)) old between →
     WorksWithin (times * (to - mid)) between new → WorksWithin (times * (to - from)) old new
 walks_on times from mid to old between new low high first next =
     let size : to - from ≡ (mid - from) + (to - mid) = omega (arith, low, high) in
-    let sum : times * (to - from) ≡ times * (mid - from) + times * (to - mid) = ap (λ (n : ℕ). times * n) size ∙ add times (mid - from) (to - mid) in
+    let sum : times * (to - from) ≡ times * (mid - from) + times * (to - mid) = ap (λ (n : ℕ). times * n) size ∙ times_more times (mid - from) (to - mid) in
     works_fewer _ _ old new (omega (arith, sum)) (works_more _ _ old between new first next)
-  where
-    add : (t a b : ℕ) → t * (a + b) ≡ t * a + t * b
-    add t a b = grind arith
 
 pub walks_fewer : (times from a b : ℕ) (old new : Automaton) → a ≤ b → WorksWithin (times * (a - from)) old new → WorksWithin (times * (b - from)) old new
 walks_fewer times from a b old new few works =
@@ -217,14 +178,11 @@ pub walks_more : (n times from mid to : ℕ) (old between new : Automaton) → f
     WorksWithin (times * (to - mid)) between new → WorksWithin (n + times * (to - from)) old new
 walks_more n times from mid to old between new low high first next =
     let size : to - from ≡ (mid - from) + (to - mid) = omega (arith, low, high) in
-    let sum : times * (to - from) ≡ times * (mid - from) + times * (to - mid) = ap (λ (n : ℕ). times * n) size ∙ add times (mid - from) (to - mid) in
+    let sum : times * (to - from) ≡ times * (mid - from) + times * (to - mid) = ap (λ (n : ℕ). times * n) size ∙ times_more times (mid - from) (to - mid) in
     works_fewer _ _ old new (omega (arith, sum)) (works_more _ _ old between new first next)
-  where
-    add : (t a b : ℕ) → t * (a + b) ≡ t * a + t * b
-    add t a b = grind arith
 
 pub walks_begun : (n times from : ℕ) (old new : Automaton) → WorksWithin n old new → WorksWithin (n + times * (from - from)) old new
-walks_begun n times from old new works = works_more n _ old new new works (walks_none times from new)
+walks_begun n times from old new works = works_more n _ old new new works (works_any (times * (from - from)) new)
 
 pub walks_less : (n times from a b : ℕ) (old new : Automaton) → a ≤ b → WorksWithin (n + times * (a - from)) old new →
     WorksWithin (n + times * (b - from)) old new
@@ -235,10 +193,7 @@ walks_less n times from a b old new few works =
 
 module _ (times : ℕ) where
   times_on : (a b : ℕ) → a ≤ b → times * b ≡ times * a + times * (b - a)
-  times_on a b low = let size : b ≡ a + (b - a) = omega (arith, low) in ap (λ (n : ℕ). times * n) size ∙ add times a (b - a)
-    where
-      add : (t a b : ℕ) → t * (a + b) ≡ t * a + t * b
-      add t a b = grind arith
+  times_on a b low = let size : b ≡ a + (b - a) = omega (arith, low) in ap (λ (n : ℕ). times * n) size ∙ times_more times a (b - a)
 
   list_is : (w b : ℕ) → search_work w b ≡ list_work w b + b
   list_is w b = sym (one_more b (w + 2 * offset_work))
@@ -281,9 +236,6 @@ module _ (times : ℕ) where
       add_up : (a b t t1 t2 : ℕ) → a ≤ b → t ≡ t1 + t2 → a + t1 ≤ b + t
       add_up a b t t1 t2 p q = omega (arith, p, q)
 
-  pub block_none : (w n : ℕ) (old : Automaton) → n ≡ 0 → WorksWithin (search_work w n + times * 0) old old
-  block_none w n old e = (omega arith, omega arith)
-
 -- ---- a text whose lines are printed
 
 if_more : (b : Bool) (m n : ℕ) → (if b then m + n else 0) ≡ (if b then m else 0) + (if b then n else 0)
@@ -293,9 +245,6 @@ if_more false m n = refl
 if_fewer : (b : Bool) (m n : ℕ) → m ≤ n → (if b then m else 0) ≤ (if b then n else 0)
 if_fewer true m n low = low
 if_fewer false m n low = omega arith
-
-times_more : (t a b : ℕ) → t * (a + b) ≡ t * a + t * b
-times_more t a b = grind arith
 
 times_fewer : (t a b : ℕ) → a ≤ b → t * a ≤ t * b
 times_fewer t a b few = mul_both t a t b (omega arith) few

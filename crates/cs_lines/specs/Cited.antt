@@ -16,7 +16,7 @@ pub use Rattle.cs_tree.specs.SinkOutputs.{Keeps, Prints, given}
 pub use Rattle.cs_lines.specs.Printing.{needs_spans, row_of}
 pub use Rattle.cs_lines.specs.Project.{searched_as}
 pub use Rattle.cs_lines.specs.Reads.{is_failure}
-pub use Rattle.cs_lines.specs.Scans.{BeginsMarks, BeginsRows, Fits, IsMarkShown, IsNextLine, IsPassed, IsPlaced, Marks, MarksLine, Searches, SearchesLast, rows_at}
+pub use Rattle.cs_lines.specs.Scans.{BeginsMarks, BeginsRows, Fits, IsMarkShown, IsPassed, IsPlaced, Marks, Searches, SearchesLast, rows_at}
 pub use Rattle.cs_lines.specs.Shown.{at_most, between, binary_groups, count_groups, count_of, counted_bytes, following, gap, has_groups, heading, is_binary, is_wanted, joined, line_gap, line_groups, name_bytes, name_groups, text_rows, total_groups}
 pub use Rattle.cs_lines.specs.Spacing.{IsPrinted, KeepsScan, ShowsRow, before_row, fresh_rows, has_numbers, is_plain, opening_of, printed_by, progress_of}
 pub use Rattle.cs_lines.specs.Streamed.{EndsBy, ReadsToEnd, is_failed, is_whole}

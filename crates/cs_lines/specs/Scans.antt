@@ -1,7 +1,7 @@
 -- The rows of a text, line by line: the definition that the search of a text is proved from.
 use Rattle.std.specs.Prelude.{ℕ, ◌≡◌, ◌≤◌, ◌+◌, ◌-◌, Bool, true, false, ◌&&◌, nat_lt, if◌then◌else◌, List, [], ◌∷◌, ◌++◌, length, drop, take, slice_range, Option}
 use Rattle.cs_match.specs.Lines.{terminated_lines}
-use Rattle.cs_match.specs.Skipping.{AreWholeLines, IsLineAfter}
+use Rattle.cs_match.specs.Skipping.{AreWholeLines}
 use Rattle.cs_match.specs.Skipped.{AreLinesBetween}
 use Rattle.cs_lines.specs.declared.search.LineSearch.{LineSearch}
 use Rattle.cs_lines.specs.Contexts.{Row, row_at, is_open, one_less}
@@ -126,29 +126,7 @@ pub record IsPlaced (search : LineSearch) (rows : Rows) (place : Place) (offset 
   pub unmarked : (test : List ℕ → Bool) → Tests test search →
       NoneMarked (is_wanted rows.page.options.now test) rows.most (terminated_lines (slice_range place.block.now place.at offset))
 
--- A line of the block from a place on: the lines between are whole.
-pub record IsNextLine (rows : Rows) (place : Place) (start end : ℕ) : Type 0 where
-  pub order : place.held ≤ place.at
-  pub whole : AreWholeLines (drop place.held place.block.now)
-  pub between : AreWholeLines (slice_range place.block.now place.held place.at)
-  pub fits : Fits (held_at place) rows.left
-  pub line : IsLineAfter place.block.now place.at start end
-
--- It was shown as a marked line with these matches, and the lines around it: if it is wanted and no line before it is marked,
--- what is to be printed of the block and of any lines after it is the same.
-pub record MarksLine (old new : Rows) (given given' : List ℕ) (place place' : Place) (start end : ℕ) (spans : List Span) : Type 0 where
-  pub block : place'.block ≡ place.block
-  pub held : place'.held ≡ end + 1
-  pub at : place'.at ≡ end + 1
-  pub page : new.page ≡ old.page
-  pub room : new.number + place.held ≤ old.number + (end + 1)
-  pub rows : (finding : Finding) → let wanted = is_wanted old.page.options.now finding.has_match in
-      let line = slice_range place.block.now start end in
-      (needs_spans old.page.options.now.form ≡ true → finding.spans line ≡ spans) → wanted line ≡ true →
-      NoneMarked wanted old.most (terminated_lines (slice_range place.block.now place.at start)) → (later : List (List ℕ)) →
-      PrintsAlike old new given given' finding (held_at place) (lines_at place ++ later) [] (terminated_lines (drop (end + 1) place.block.now) ++ later)
-
--- They are searched up to another offset now: what is to be printed of the block and of any lines after it is the same.
+-- The lines are searched up to another offset now: what is to be printed of the block and of any lines after it is the same.
 pub record Marks (search search' : LineSearch) (old new : Rows) (given given' : List ℕ) (place place' : Place) (offset : ℕ) : Type 0 where
   pub placed : IsPlaced search' new place' offset
   pub block : place'.block ≡ place.block

@@ -17,6 +17,7 @@ pub(crate) struct LineRow<'a> {
 impl LineForm {
     /// A text, in this colour if the form has colours.
     #[tactic(auto, using(crate::proofs::Printing::printing))]
+    #[inline(always)]
     pub(crate) fn print_dyed<O: Sink>(
         &self,
         colour: &[u8],
@@ -37,6 +38,7 @@ impl LineForm {
     }
 
     /// What ends a part of the prefix: a colon if the line is marked, else a hyphen.
+    #[inline(always)]
     pub(crate) fn print_separator<O: Sink>(&self, marked: bool, out: &mut SinkOutput<'_, O>)
         ensures { Prints O.model O.failed out.old out.new (dyed self.now (codes "36") (separator marked)) }
     {
@@ -49,6 +51,7 @@ impl LineForm {
 
     /// A text and its separator.
     #[tactic(auto, using(crate::proofs::Printing::printing))]
+    #[inline(always)]
     fn print_separated<O: Sink>(
         &self,
         marked: bool,

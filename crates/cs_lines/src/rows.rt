@@ -114,6 +114,7 @@ impl Page<'_> {
 
     /// What is before the first line of the text.
     #[tactic(auto, using(crate::proofs::Printing::printing))]
+    #[inline(never)]
     fn print_opening<O: Sink>(&self, out: &mut SinkOutput<'_, O>)
         ensures { Prints O.model O.failed out.old out.new (opening_of self.now) }
     {
@@ -168,6 +169,7 @@ impl<'a> Rows<'a> {
 
     /// Shows the next line; if it is marked, with these matches.
     #[tactic(auto, using(crate::proofs::Printing::printing))]
+    #[inline(never)]
     fn show<O: Sink>(&mut self, row: &LineRow<'_>, spans: &[Span], out: &mut SinkOutput<'_, O>)
         requires number { row.now.number + 1 < 2 ^ 64 }
         requires ordered { AreOrdered 0 (length row.now.line.now) (pairs spans.now) }
@@ -186,29 +188,8 @@ impl<'a> Rows<'a> {
         self.shown = true;
     }
 
-    /// Shows the next line, a marked one, with its newline, where its row is plain.
-    #[tactic(auto, using(crate::proofs::Printing::printing))]
-    fn show_plain<O: Sink>(&mut self, ended: &[u8], out: &mut SinkOutput<'_, O>)
-        requires plain { is_plain self.old.page.options.now ≡ true }
-        requires number { self.old.number + 1 < 2 ^ 64 }
-        ensures row { (line : List ℕ) → ended.now ≡ line ++ newline ∷ [] → (finding : Finding) →
-            progress_of self.new (given out.new) ≡ printed_by self.old.page finding
-            (progress_of self.old (given out.old)) (row_at self.old.number line true ∷ []) }
-        ensures same { (self.new.page ≡ self.old.page) × KeepsScan self.old self.new }
-        ensures keeps { Keeps O.model O.failed out.old out.new }
-    {
-        if !self.shown {
-            self.page.print_opening(out);
-        }
-        let form = &self.page.options.form;
-        form.print_name(self.page.name, true, out);
-        form.print_number(self.number, true, out);
-        out.print(ended);
-        self.next = self.number + 1;
-        self.shown = true;
-    }
-
     /// Shows the first `count` lines of a block, which are not marked. The first has this number.
+    #[inline(never)]
     fn show_lines<O: Sink>(
         &mut self,
         number: u64,
@@ -330,7 +311,8 @@ impl<'a> Rows<'a> {
     }
 
     /// The same for a line with its newline, where its row is plain.
-    pub(crate) fn show_plain_mark<O: Sink>(
+    #[inline(always)]
+    pub(crate) fn show_plain<O: Sink>(
         &mut self,
         held: &[u8],
         ended: &[u8],
@@ -346,10 +328,18 @@ impl<'a> Rows<'a> {
         ensures keeps { Keeps O.model O.failed out.old out.new }
     {
         self.number += self.counted(held);
-        self.show_plain(ended, out);
+        if !self.shown {
+            self.page.print_opening(out);
+        }
+        let form = &self.page.options.form;
+        form.print_name(self.page.name, true, out);
+        form.print_number(self.number, true, out);
+        out.print(ended);
         self.number += 1;
         self.left = 0;
         self.most = one_less(self.most);
+        self.shown = true;
+        self.next = self.number;
     }
 }
 

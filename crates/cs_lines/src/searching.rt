@@ -1,7 +1,7 @@
 // The search of the lines of a text for those that are marked.
 ghost use Rattle.std.specs.Prelude.{◌≡◌, ◌≤◌, ◌<◌, ◌+◌, ◌-◌, ◌*◌, ◌^◌, ℕ, Bool, ◌&&◌, List, [], true, not, length, take, drop, slice_range, IfOk, OnOk, OnErr, if◌then◌else◌};
 ghost use Rattle.std.specs.List.{AllByRecursion};
-ghost use Rattle.cs_lines.specs.Cited.{last_line, terminated_lines, matching_ends, AreWholeLines, AreLinesBetween, IsLineAfter, is_open, Keeps, given, listed_ends, Tests, TestsMatches, HasMatchBy, KeepsSearch, StopsBySpans, has_stopped, Fits, BeginsMarks, BeginsRows, IsNextLine, IsPlaced, Marks, MarksLine, Searches, SearchesLast, AreOrdered, is_plain, is_wanted, pairs, Takes, has_context, line_weight, line_work, search_work, walks};
+ghost use Rattle.cs_lines.specs.Cited.{last_line, terminated_lines, matching_ends, AreWholeLines, AreLinesBetween, IsLineAfter, is_open, Keeps, given, listed_ends, Tests, TestsMatches, HasMatchBy, KeepsSearch, StopsBySpans, has_stopped, Fits, BeginsMarks, BeginsRows, IsPlaced, Marks, Searches, SearchesLast, AreOrdered, is_plain, is_wanted, pairs, Takes, has_context, line_weight, line_work, search_work, walks};
 ghost use Rattle.cs_lines.specs.Forms.{Span as A_span};
 
 use crate::form::ShowOptions;
@@ -191,6 +191,7 @@ impl Rows<'_> {
     }
 
     /// Marks the lines of a part, if lines without a match are wanted: the part has no others.
+    #[inline(always)]
     fn mark_missed<'b, O: Sink>(
         &mut self,
         place: Place<'b>,
@@ -224,6 +225,7 @@ impl Rows<'_> {
     }
 
     /// Marks each line of a part. All are wanted.
+    #[inline(never)]
     fn mark_each<'b, O: Sink>(
         &mut self,
         place: Place<'b>,
@@ -261,6 +263,7 @@ impl Rows<'_> {
     }
 
     /// Marks a line that has a match, if it is wanted.
+    #[inline(always)]
     fn mark_matched<'b, O: Sink>(
         &mut self,
         place: Place<'b>,
@@ -294,6 +297,7 @@ impl Rows<'_> {
 
     /// Marks a line that is wanted, if another line may be marked: shows it, and the lines around
     /// it.
+    #[inline(always)]
     fn mark<'b, O: Sink>(
         &mut self,
         place: Place<'b>,
@@ -327,64 +331,18 @@ impl Rows<'_> {
         self.page
             .options
             .count_walks(line.end + 1 - place.held, search);
+        let block = place.block;
         if self.page.options.is_plain() {
-            return Ok(self.mark_plain(place, line, out));
+            let held = self.pass(&block[..line.start], place.held, place.at, out);
+            let ended = &block[line.start..line.end + 1];
+            self.show_plain(&block[held..line.start], ended, out);
+            return Ok(place.after(line.end));
         }
-        search.find(&self.page.options.form, &place.block[line.start..line.end])?;
-        Ok(self.mark_found(place, line, search.spans(), out))
-    }
-
-    /// Shows a marked line with these matches, and the lines around it.
-    fn mark_found<'b, O: Sink>(
-        &mut self,
-        place: Place<'b>,
-        line: Line,
-        spans: &[Span],
-        out: &mut SinkOutput<'_, O>,
-    ) -> Place<'b>
-        requires line { IsNextLine self.old place line.start line.end }
-        requires ordered { AreOrdered 0 (line.end - line.start) (pairs spans.now) }
-        requires open { is_open self.old.most ≡ true }
-        requires room { self.old.number + (length place.block.now - place.held) < 2 ^ 64 }
-        ensures marks { MarksLine self.old self.new (given out.old) (given out.new) place.entry
-            result line.start
-            line.end (pairs spans.now) }
-        ensures keeps { Keeps O.model O.failed out.old out.new }
-    {
-        let block = place.block;
+        let text = &block[line.start..line.end];
+        search.find(&self.page.options.form, text)?;
         let held = self.pass(&block[..line.start], place.held, place.at, out);
-        self.show_mark(
-            &block[held..line.start],
-            &block[line.start..line.end],
-            spans,
-            out,
-        );
-        place.after(line.end)
-    }
-
-    /// The same where the row of the line is plain.
-    fn mark_plain<'b, O: Sink>(
-        &mut self,
-        place: Place<'b>,
-        line: Line,
-        out: &mut SinkOutput<'_, O>,
-    ) -> Place<'b>
-        requires plain { is_plain self.old.page.options.now ≡ true }
-        requires line { IsNextLine self.old place line.start line.end }
-        requires open { is_open self.old.most ≡ true }
-        requires room { self.old.number + (length place.block.now - place.held) < 2 ^ 64 }
-        ensures marks { (spans : List A_span) → MarksLine self.old self.new (given out.old) (given out.new)
-            place.entry result line.start line.end spans }
-        ensures keeps { Keeps O.model O.failed out.old out.new }
-    {
-        let block = place.block;
-        let held = self.pass(&block[..line.start], place.held, place.at, out);
-        self.show_plain_mark(
-            &block[held..line.start],
-            &block[line.start..line.end + 1],
-            out,
-        );
-        place.after(line.end)
+        self.show_mark(&block[held..line.start], text, search.spans(), out);
+        Ok(place.after(line.end))
     }
 
     /// Whether a line is marked.

@@ -215,9 +215,9 @@ pub(crate) fn stream_lines<R: Source, O: Sink>(
     let mut scanned = 0;
     'pieces: loop {
         held = rows.search_pending(buffer, held, scanned, search, out)?;
+        search.add_steps(1);
         out.check()?;
         scanned = buffer.pending().len();
-        search.add_steps(1);
         match buffer.fill(input) {
             Ok(0) => break,
             Ok(_) => {}

@@ -1,6 +1,7 @@
 -- The model of a sink with a buffer: moving the bytes of the buffer to the inner sink, and adding to them.
-use Rattle.std.proofs.Common.{◌≡◌, ℕ, ◌+◌, List, [], ◌++◌, sym, ap, ◌∙◌, take, drop, Option, Some, None, option_map, append_assoc, append-nil}
-use Rattle.std.proofs.lemmas.List.{take-append-drop, drop-drop}
+use Rattle.std.proofs.Common.{◌≡◌, ◌≤◌, ℕ, ◌+◌, ◌-◌, List, [], ◌++◌, sym, ap, subst, ◌∙◌, take, drop, slice_range, length, arith, Option, Some, None, option_map, append_assoc, append-nil}
+use Rattle.std.proofs.lemmas.List.{take-append-drop, drop-drop, drop-take, drop-append-le, length-take-le, length-drop}
+use Rattle.std.proofs.Math.Seq.{take-append-add, take-append_seam}
 use Rattle.cs_tree.specs.Sinks.{SinkModel, with_bytes, Grows}
 
 -- what an inner sink has, and then these bytes
@@ -23,8 +24,35 @@ adds_held (Some a) held later buf is = ap (λ bytes. Some (record a { bytes = by
     (ap (λ later. a.bytes ++ later) is ∙ sym (append_assoc a.bytes held buf))
 
 -- a piece that is written is the first of the bytes that are held
-pub held_parts : (start n : ℕ) (bs written : List ℕ) → written ≡ drop start bs → drop start bs ≡ take n written ++ drop (start + n) bs
-held_parts start n bs written is =
-    sym (take-append-drop n (drop start bs))
-    ∙ ap (λ written. take n written ++ drop n (drop start bs)) (sym is)
-    ∙ ap (λ rest. take n written ++ rest) (drop-drop n start bs)
+pub held_parts : (bs written : List ℕ) (start end n : ℕ) → n ≤ end - start → written ≡ slice_range bs start end
+    → slice_range bs start end ≡ take n written ++ slice_range bs (start + n) end
+held_parts bs written start end n within is =
+    let held = slice_range bs start end in
+    let split : end - start ≡ n + (end - (start + n)) = omega arith in
+    let rest : drop n held ≡ slice_range bs (start + n) end =
+    ap (λ k. drop n (take k (drop start bs))) split
+    ∙ drop-take n (end - (start + n)) (drop start bs)
+    ∙ ap (take (end - (start + n))) (drop-drop n start bs) in
+    sym (take-append-drop n held)
+    ∙ ap (λ written. take n written ++ drop n held) (sym is)
+    ∙ ap (λ rest. take n written ++ rest) rest
+
+-- what is written behind the bytes that are held comes behind them
+pub held_on : (bs put buf after : List ℕ) (start end : ℕ) → put ≡ buf → start ≤ end → end ≤ length bs
+    → slice_range (take end bs ++ (put ++ after)) start (end + length buf) ≡ slice_range bs start end ++ buf
+held_on bs put buf after start end is ordered within =
+    let held = slice_range bs start end in
+    let whole : start + (end - start) ≡ end = omega arith in
+    let first : drop start (take end bs) ≡ held =
+    ap (λ k. drop start (take k bs)) (sym whole) ∙ drop-take start (end - start) bs in
+    let len : length held ≡ end - start =
+    length-take-le (end - start) (drop start bs) (subst (λ n. end - start ≤ n) (sym (length-drop start bs)) (omega arith)) in
+    let count : end + length buf - start ≡ length held + length buf =
+    omega (arith, len, ordered) in
+    ap (λ put. slice_range (take end bs ++ (put ++ after)) start (end + length buf)) is
+    ∙ ap (take (end + length buf - start))
+    (drop-append-le start (take end bs) (buf ++ after) (subst (λ n. start ≤ n) (sym (length-take-le end bs within)) ordered)
+    ∙ ap (λ held. held ++ (buf ++ after)) first)
+    ∙ ap (λ k. take k (held ++ (buf ++ after))) count
+    ∙ take-append-add held (buf ++ after) (length buf)
+    ∙ ap (λ bytes. held ++ bytes) (take-append_seam buf after)

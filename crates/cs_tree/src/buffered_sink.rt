@@ -8,8 +8,9 @@ ghost use Rattle.std.specs.Prelude.{◌≤◌, vec_len};
 #[derive(Drop)]
 pub struct BufferedSink<O: Drop> {
     pub(crate) bytes: Vec<u8>,
-    /// The bytes from `start` on are those that the inner sink has still to get.
+    /// The bytes from `start` to `end` are those that the inner sink has still to get.
     pub(crate) start: usize,
+    pub(crate) end: usize,
     pub(crate) inner: O,
-    ghost within: { start ≤ vec_len bytes },
+    ghost within: { (start ≤ end) × (end ≤ vec_len bytes) },
 }

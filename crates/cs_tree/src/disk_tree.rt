@@ -38,6 +38,8 @@ pub struct DiskTree<R: Files + Drop> {
     /// The current folder with a slash at its end, or an empty text. A path goes to the system
     /// without it, so that the system looks fewer names up.
     current: String,
+    /// The device that counts as 0 in stamps.
+    home: Option<u64>,
     /// What a read of a folder fills with names. Empty until the first one.
     names: Vec<u8>,
     opened: DiskFile<R::File>,
@@ -101,6 +103,7 @@ impl<R: Files + AllocGlobal + Clone + Drop> DiskTree<R> {
             only_files,
             output: None,
             current,
+            home: None,
             names,
             opened: DiskFile::Closed,
             failed: 0,
@@ -118,6 +121,20 @@ impl<R: Files + AllocGlobal + Clone + Drop> DiskTree<R> {
         self.output = match fs::metadata(&self.rt, OUTPUT) {
             Ok(metadata) if metadata.is_file() => Some(id_of(&metadata)),
             _ => None,
+        };
+    }
+
+    /// From now on the device of the folder at a path is 0 in stamps, as far as it can be asked for
+    /// (the empty path is `/`): the system may give it another number at each start, and a
+    /// container another one than its host.
+    pub fn count_from(&mut self, path: &str)
+        ensures { ⟦<DiskTree<R> as Tree>⟧.failed self.new
+            ≡ ⟦<DiskTree<R> as Tree>⟧.failed self.old }
+    {
+        let folder = if path.is_empty() { "/" } else { path };
+        self.home = match fs::metadata(&self.rt, folder) {
+            Ok(metadata) => Some(metadata.dev()),
+            Err(_) => None,
         };
     }
 }
@@ -211,7 +228,7 @@ impl<R: Files + AllocGlobal + Clone + Drop> Look for DiskTree<R> {
     /// Makes one call of the system.
     fn look(&mut self, path: &str) -> Result<Seen, TreeFault> {
         let answer = match fs::symlink_metadata(&self.rt, path_from(self.current.as_str(), path)) {
-            Ok(metadata) => Ok(seen_of(&metadata)),
+            Ok(metadata) => Ok(seen_of(&metadata, self.home)),
             Err(error) => Err(fault_of(&error)),
         };
         counted_answer(&mut self.failed, answer)
@@ -221,7 +238,7 @@ impl<R: Files + AllocGlobal + Clone + Drop> Look for DiskTree<R> {
     fn open_file(&mut self, path: &str) -> Result<Option<Stamp>, TreeFault> {
         self.opened = DiskFile::Closed;
         let from = path_from(self.current.as_str(), path);
-        match open_stamped(&self.rt, self.output, from) {
+        match open_stamped(&self.rt, self.output, self.home, from) {
             Ok((file, stamp)) => {
                 self.opened = file;
                 Ok(stamp)
@@ -231,19 +248,20 @@ impl<R: Files + AllocGlobal + Clone + Drop> Look for DiskTree<R> {
     }
 }
 
-fn seen_of(metadata: &Metadata) -> Seen
+fn seen_of(metadata: &Metadata, home: Option<u64>) -> Seen
     ensures folder { kind_seen result ≡ Kind.Folder ↔ IsDir (file_type metadata.now) }
     ensures file { kind_seen result ≡ Kind.File ↔ IsFile (file_type metadata.now) }
 {
     Seen {
         kind: kind_of(metadata),
-        stamp: stamp_of(metadata),
+        stamp: stamp_of(metadata, home),
     }
 }
 
-fn stamp_of(metadata: &Metadata) -> Option<Stamp> {
+fn stamp_of(metadata: &Metadata, home: Option<u64>) -> Option<Stamp> {
+    let device = metadata.dev();
     Some(Stamp {
-        device: metadata.dev(),
+        device: if home == Some(device) { 0 } else { device },
         inode: metadata.ino(),
         size: metadata.size(),
         modified: nanoseconds(metadata.mtime(), metadata.mtime_nsec())?,
@@ -452,6 +470,7 @@ fn open_file<R: Files + Drop>(
 fn open_stamped<R: Files + Drop>(
     rt: &R,
     output: Option<FileId>,
+    home: Option<u64>,
     path: &str,
 ) -> Result<(DiskFile<R::File>, Option<Stamp>), TreeFault> {
     opened_len(fs::metadata(rt, path), true, output)?;
@@ -463,7 +482,7 @@ fn open_stamped<R: Files + Drop>(
         Ok(metadata) => metadata,
         Err(error) => return Err(fault_of(&error)),
     };
-    let stamp = stamp_of(&metadata);
+    let stamp = stamp_of(&metadata, home);
     if opened_len(Ok(metadata), true, output)? == 0 {
         return Ok((DiskFile::Empty, stamp));
     }

@@ -9,7 +9,7 @@ use Rattle.cs_lines.specs.Shown.{is_wanted}
 use Rattle.cs_lines.specs.Work.{line_weight, line_work}
 use Rattle.cs_lines.proofs.CountLemmas.{count_both, count_enough, count_split, is_count}
 use Rattle.cs_lines.proofs.FindingLemmas.{keeps_again, tests_same}
-use Rattle.cs_lines.proofs.WorkLemmas.{same_weight, text_done, works_none}
+use Rattle.cs_lines.proofs.WorkLemmas.{same_weight, text_done, works_any}
 use Rattle.cs_lines.proofs.counting.text_count.Goals as goal
 
 pub returns-then-is_enough-clause-count : goal.returns-then-is_enough-clause-count
@@ -41,7 +41,7 @@ pub returns-then-is_enough-clause-work : goal.returns-then-is_enough-clause-work
 returns-then-is_enough-clause-work c =
     let n = c.count_block-count in
     text_done (line_weight c.args.search.now) (line_weight c.add_steps.new.self) c.args.search.now.matcher c.add_steps.new.self.matcher n.new.search.matcher
-    n.new.search.matcher c.args.text.now c.whole_lines_len-end.result 0 (same_weight c.args.search.now c.add_steps.new.self c.add_steps.ensures.same) (omega arith) c.add_steps.ensures.work n.ensures.work (works_none n.new.search.matcher)
+    n.new.search.matcher c.args.text.now c.whole_lines_len-end.result 0 (same_weight c.args.search.now c.add_steps.new.self c.add_steps.ensures.same) (omega arith) c.add_steps.ensures.work n.ensures.work (works_any 0 n.new.search.matcher)
 
 pub returns-clause-work : goal.returns-clause-work
 returns-clause-work c =

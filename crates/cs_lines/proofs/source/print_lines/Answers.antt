@@ -23,6 +23,8 @@ use Rattle.cs_lines.proofs.TextLemmas.{lines_are}
 use Rattle.cs_match.specs.Work.{WorksWithin}
 use Rattle.cs_lines.specs.Work.{Takes, line_weight, line_work, search_work, shown_work, walks}
 use Rattle.cs_lines.proofs.WorkLemmas.{at_most, same_weight, shown_text, works_any}
+use Rattle.cs_lines.proofs.source.print_lines.Given.{Over}
+use Rattle.cs_lines.proofs.source.print_lines.Goals.{In_ok-held, In_ok-search_last}
 use Rattle.cs_lines.proofs.source.print_lines.Goals as goal
 
 none_of : terminated_lines [] ≡ []
@@ -114,37 +116,25 @@ returns-in_err-search_last-clause-begins g c =
     text e.result h.held e.ensures.within e.ensures.whole e.ensures.rest (low e.result h.held text e.ensures.within h.ensures.within) h.ensures.rows
     (c.in_err-search_last.ensures.same.3 none) finding (found_same c.args.search.now c.add_steps.new.self c.add_steps.ensures.same finding found)))
 
-pub returns-clause-text : goal.returns-clause-text
-returns-clause-text g c =
+printed : (g : Over) (c : In_ok-search_last g) → IfFound c.args.search.now c.search_last.new.search
+    (λ finding. LinesPrinted c.args.page.now finding (lines c.args.text.now) (given c.args.out.now) (given c.search_last.new.out) c.search_last.new.self.shown)
+printed g c none finding found =
     let text = c.args.text.now in
     let e = c.whole_lines_len-end in
     let h = c.in_ok-held in
     let r = c.in_ok-search_last.ensures in
-    let page = c.args.page.now in
-    let g0 = given c.args.out.now in
-    let g2 = given c.search_last.new.out in
-    let printed : IfFound c.args.search.now c.search_last.new.search (λ finding. LinesPrinted page finding (lines text) g0 g2 c.search_last.new.self.shown) =
-    λ none finding found. shown c.add_steps.new.self c.search_block.new.search page c.new-rows.result c.search_block.new.self c.new-rows.ensures g0 (given c.search_block.new.out)
-    text e.result h.held e.ensures.within e.ensures.whole e.ensures.rest (low e.result h.held text e.ensures.within h.ensures.within) h.ensures.rows
-    c.search_last.new.search c.search_last.new.self g2 (take (length text - e.result) (drop e.result text)) (take_rest text e.result) h.ensures.same r.same r.rows
-    none finding (found_same c.args.search.now c.add_steps.new.self c.add_steps.ensures.same finding found) in
-    printed
+    shown c.add_steps.new.self c.search_block.new.search c.args.page.now c.new-rows.result c.search_block.new.self c.new-rows.ensures (given c.args.out.now)
+    (given c.search_block.new.out) text e.result h.held e.ensures.within e.ensures.whole e.ensures.rest (low e.result h.held text e.ensures.within h.ensures.within)
+    h.ensures.rows c.search_last.new.search c.search_last.new.self (given c.search_last.new.out) (take (length text - e.result) (drop e.result text))
+    (take_rest text e.result) h.ensures.same r.same r.rows none finding (found_same c.args.search.now c.add_steps.new.self c.add_steps.ensures.same finding found)
+
+pub returns-clause-text : goal.returns-clause-text
+returns-clause-text g c = printed g (goal.at.returns-clause-text g c).In_ok-search_last
 
 pub returns-in_err-check-clause-begins : goal.returns-in_err-check-clause-begins
 returns-in_err-check-clause-begins g c =
-    let text = c.args.text.now in
-    let e = c.whole_lines_len-end in
-    let h = c.in_ok-held in
-    let r = c.in_ok-search_last.ensures in
-    let page = c.args.page.now in
-    let g0 = given c.args.out.now in
-    let g2 = given c.search_last.new.out in
-    let printed : IfFound c.args.search.now c.search_last.new.search (λ finding. LinesPrinted page finding (lines text) g0 g2 c.search_last.new.self.shown) =
-    λ none finding found. shown c.add_steps.new.self c.search_block.new.search page c.new-rows.result c.search_block.new.self c.new-rows.ensures g0 (given c.search_block.new.out)
-    text e.result h.held e.ensures.within e.ensures.whole e.ensures.rest (low e.result h.held text e.ensures.within h.ensures.within) h.ensures.rows
-    c.search_last.new.search c.search_last.new.self g2 (take (length text - e.result) (drop e.result text)) (take_rest text e.result) h.ensures.same r.same r.rows
-    none finding (found_same c.args.search.now c.add_steps.new.self c.add_steps.ensures.same finding found) in
-    any_err c.from_residual-in_err-check.result (λ none finding found. ([], sym (printed none finding found).0 ∙ sym (append-nil g2)))
+    let p = printed g (goal.at.returns-in_err-check-clause-begins g c).In_ok-search_last in
+    any_err c.from_residual-in_err-check.result (λ none finding found. ([], sym (p none finding found).0 ∙ sym (append-nil (given c.search_last.new.out))))
 
 -- the steps of a text whose lines were searched, and then the last one
 steps : (page : Page) (s0 mid s1 s2 : LineSearch) (rows0 rows1 : Rows) (text : List ℕ) (end held : ℕ) → rows0 ≡ fresh_rows page → rows1.page ≡ rows0.page →
@@ -182,29 +172,24 @@ returns-in_err-held-clause-work g c =
     (subst (λ (r : Rows). WorksWithin (search_work (line_weight mid) (n - 0) + walks r.page.options.now * n) mid.matcher new) c.new-rows.ensures
     c.in_err-held.ensures.cut) (works_any (0 + walks options * 0) new)
 
-pub returns-in_err-search_last-clause-work : goal.returns-in_err-search_last-clause-work
-returns-in_err-search_last-clause-work g c =
+steps_last : (g : Over) (c : In_ok-held g) (search : LineSearch) → let text = c.args.text.now in let end = c.whole_lines_len-end.result in
+    Takes (line_work (line_weight c.search_block.new.search) (length (take (length text - end) (drop end text)))
+    + walks c.search_block.new.self.page.options.now * length (take (end - c.in_ok-held.held) (drop c.in_ok-held.held text))) c.search_block.new.search search →
+    Takes (shown_work c.args.page.now.options.now (line_weight c.args.search.now) text) c.args.search.now search
+steps_last g c search work =
     let e = c.whole_lines_len-end in
     let h = c.in_ok-held in
-    steps c.args.page.now c.args.search.now c.add_steps.new.self c.search_block.new.search c.search_last.new.search c.new-rows.result c.search_block.new.self
+    steps c.args.page.now c.args.search.now c.add_steps.new.self c.search_block.new.search search c.new-rows.result c.search_block.new.self
     c.args.text.now e.result h.held c.new-rows.ensures h.ensures.page e.ensures.within e.ensures.whole e.ensures.rest
-    (low e.result h.held c.args.text.now e.ensures.within h.ensures.within) c.add_steps.ensures.same h.ensures.same c.add_steps.ensures.work h.ensures.work
-    c.in_err-search_last.ensures.work
+    (low e.result h.held c.args.text.now e.ensures.within h.ensures.within) c.add_steps.ensures.same h.ensures.same c.add_steps.ensures.work h.ensures.work work
+
+pub returns-in_err-search_last-clause-work : goal.returns-in_err-search_last-clause-work
+returns-in_err-search_last-clause-work g c =
+    steps_last g (goal.at.returns-in_err-search_last-clause-work g c).In_ok-held c.search_last.new.search c.in_err-search_last.ensures.work
 
 pub returns-in_err-check-clause-work : goal.returns-in_err-check-clause-work
 returns-in_err-check-clause-work g c =
-    let e = c.whole_lines_len-end in
-    let h = c.in_ok-held in
-    steps c.args.page.now c.args.search.now c.add_steps.new.self c.search_block.new.search c.search_last.new.search c.new-rows.result c.search_block.new.self
-    c.args.text.now e.result h.held c.new-rows.ensures h.ensures.page e.ensures.within e.ensures.whole e.ensures.rest
-    (low e.result h.held c.args.text.now e.ensures.within h.ensures.within) c.add_steps.ensures.same h.ensures.same c.add_steps.ensures.work h.ensures.work
-    c.in_ok-search_last.ensures.work
+    steps_last g (goal.at.returns-in_err-check-clause-work g c).In_ok-held c.search_last.new.search c.in_ok-search_last.ensures.work
 
 pub returns-clause-work : goal.returns-clause-work
-returns-clause-work g c =
-    let e = c.whole_lines_len-end in
-    let h = c.in_ok-held in
-    steps c.args.page.now c.args.search.now c.add_steps.new.self c.search_block.new.search c.search_last.new.search c.new-rows.result c.search_block.new.self
-    c.args.text.now e.result h.held c.new-rows.ensures h.ensures.page e.ensures.within e.ensures.whole e.ensures.rest
-    (low e.result h.held c.args.text.now e.ensures.within h.ensures.within) c.add_steps.ensures.same h.ensures.same c.add_steps.ensures.work h.ensures.work
-    c.in_ok-search_last.ensures.work
+returns-clause-work g c = steps_last g (goal.at.returns-clause-work g c).In_ok-held c.search_last.new.search c.in_ok-search_last.ensures.work

@@ -11,7 +11,7 @@ use Rattle.cs_lines.proofs.PlaceLemmas.{any_err, begins_then, ends_before, lines
 use Rattle.cs_tree.proofs.SinkOutputLemmas.{keeps_same, keeps_then}
 use Rattle.cs_match.specs.Work.{WorksWithin}
 use Rattle.cs_lines.specs.Work.{walks}
-use Rattle.cs_lines.proofs.WorkLemmas.{walks_fewer, walks_none, walks_on}
+use Rattle.cs_lines.proofs.WorkLemmas.{walks_fewer, walks_on, works_any}
 use Rattle.cs_lines.proofs.rows.Rows.mark_each.Goals as goal
 
 pub lines-init : goal.lines-init
@@ -24,7 +24,7 @@ lines-init g c =
       listed = refl;
       same = keeps_itself c.args.search.now;
       budget = λ alone. refl;
-      work = walks_none (walks c.args.self.now.page.options.now) place.held c.args.search.now.matcher;
+      work = works_any (walks c.args.self.now.page.options.now * (place.held - place.held)) c.args.search.now.matcher;
       keeps = keeps_same g.O.Sink.model g.O.Sink.failed c.args.out.now;
     }
 

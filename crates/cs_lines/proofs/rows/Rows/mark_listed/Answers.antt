@@ -7,14 +7,17 @@ use Rattle.cs_match.specs.Skipped.{AreLinesBetween}
 use Rattle.cs_match.specs.Skipping.{IsLineAfter}
 use Rattle.cs_match.proofs.DecidabilityLemmas.{matching_is_decidable}
 use Rattle.cs_match.proofs.ListingLemmas.{IsFirstEnd, first_end, first_matches, first_skips, line_alone, lines_append, no_ends}
-use Rattle.cs_lines.specs.Findings.{HasMatchBy, listed_ends}
+use Rattle.cs_lines.specs.Findings.{HasMatchBy, TestsMatches, listed_ends}
 use Rattle.cs_tree.specs.SinkOutputs.{given}
+use Rattle.cs_lines.specs.Scans.{Marks}
 use Rattle.cs_lines.proofs.FindingLemmas.{finds_before, keeps_again, stops_again}
 use Rattle.cs_lines.proofs.PlaceLemmas.{any_err, begins_then, err_map, line_lines, lines_none, lines_rest, marks_here, marks_then, ok_map, ok_map_with, placed_kept}
 use Rattle.cs_tree.proofs.SinkOutputLemmas.{keeps_same, keeps_then}
 use Rattle.cs_match.specs.Work.{WorksWithin}
 use Rattle.cs_lines.specs.Work.{walks}
 use Rattle.cs_lines.proofs.WorkLemmas.{walks_begun, walks_less, walks_more}
+use Rattle.cs_lines.proofs.rows.Rows.mark_listed.Given.{Over}
+use Rattle.cs_lines.proofs.rows.Rows.mark_listed.Goals.{After-listed, In_ok-place}
 use Rattle.cs_lines.proofs.rows.Rows.mark_listed.Goals as goal
 
 pub loop-k-init : goal.loop-k-init
@@ -44,31 +47,35 @@ next test block listed now ends offset to k low high within rest is same =
     (first_end test block offset to (get_or ends k 0) (drop (k + 1) ends) low high
     (sym rest ∙ drop-cons ends k 0 within ∙ ap (λ n. get_or ends k 0 ∷ drop n ends) one))
 
-pub line_to-line-requires-clause-low : goal.line_to-line-requires-clause-low
-line_to-line-requires-clause-low g c =
+within : (g : Over) (c : After-listed g) → c.loop-k.k < length (listed_ends c.args.search.now)
+within g c = omega (arith, c.loop-k-test.true, ap (λ (xs : List ℕ). length xs) (c.listed-k-end.ensures ∙ c.add_steps.ensures.listed))
+
+first_of : (g : Over) (c : After-listed g) (test : List ℕ → Bool) → TestsMatches test c.args.search.now →
+    IsFirstEnd test c.args.place.block.now c.loop-k.offset c.args.part.end (get_or c.listed.result.now c.loop-k.k 0)
+    (drop (c.loop-k.k + 1) (listed_ends c.args.search.now))
+first_of g c test tests =
     let i = c.loop-k.invariant in
-    let finds = matching_is_decidable c.args.search.now.matcher.tree in
-    (next finds.0 c.args.place.block.now c.listed.result.now (listed_ends c.loop-k.search) (listed_ends c.args.search.now) c.loop-k.offset c.args.part.end c.loop-k.k
-    i.high c.requires.lines.high (omega (arith, c.loop-k-test.true, ap (λ (xs : List ℕ). length xs) (c.listed-k-end.ensures ∙ c.add_steps.ensures.listed)))
-    (i.rest finds.0 finds.1) c.listed.ensures i.listed).low
+    next test c.args.place.block.now c.listed.result.now (listed_ends c.loop-k.search) (listed_ends c.args.search.now) c.loop-k.offset c.args.part.end c.loop-k.k
+    i.high c.requires.lines.high (within g c) (i.rest test tests) c.listed.ensures i.listed
+
+-- by some test
+first_end_of : (g : Over) (c : After-listed g) → let finds = matching_is_decidable c.args.search.now.matcher.tree in
+    IsFirstEnd finds.0 c.args.place.block.now c.loop-k.offset c.args.part.end (get_or c.listed.result.now c.loop-k.k 0)
+    (drop (c.loop-k.k + 1) (listed_ends c.args.search.now))
+first_end_of g c = let finds = matching_is_decidable c.args.search.now.matcher.tree in first_of g c finds.0 finds.1
+
+pub line_to-line-requires-clause-low : goal.line_to-line-requires-clause-low
+line_to-line-requires-clause-low g c = (first_end_of g (goal.at.line_to-line-requires-clause-low g c).After-listed).low
 
 pub line_to-line-requires-clause-within : goal.line_to-line-requires-clause-within
 line_to-line-requires-clause-within g c =
-    let i = c.loop-k.invariant in
-    let finds = matching_is_decidable c.args.search.now.matcher.tree in
-    let first = next finds.0 c.args.place.block.now c.listed.result.now (listed_ends c.loop-k.search) (listed_ends c.args.search.now) c.loop-k.offset c.args.part.end
-    c.loop-k.k i.high c.requires.lines.high (omega (arith, c.loop-k-test.true, ap (λ (xs : List ℕ). length xs) (c.listed-k-end.ensures ∙ c.add_steps.ensures.listed)))
-    (i.rest finds.0 finds.1) c.listed.ensures i.listed in
-    subst (λ b. get_or c.listed.result.now c.loop-k.k 0 < length b.now) (sym i.marks.block) (omega (arith, first.high, c.requires.lines.high))
+    subst (λ b. get_or c.listed.result.now c.loop-k.k 0 < length b.now) (sym c.loop-k.invariant.marks.block)
+    (omega (arith, (first_end_of g (goal.at.line_to-line-requires-clause-within g c).After-listed).high, c.requires.lines.high))
 
 pub line_to-line-requires-clause-newline : goal.line_to-line-requires-clause-newline
 line_to-line-requires-clause-newline g c =
-    let i = c.loop-k.invariant in
-    let finds = matching_is_decidable c.args.search.now.matcher.tree in
-    subst (λ b. get_or b.now (get_or c.listed.result.now c.loop-k.k 0) 0 ≡ newline) (sym i.marks.block)
-    (next finds.0 c.args.place.block.now c.listed.result.now (listed_ends c.loop-k.search) (listed_ends c.args.search.now) c.loop-k.offset c.args.part.end c.loop-k.k
-    i.high c.requires.lines.high (omega (arith, c.loop-k-test.true, ap (λ (xs : List ℕ). length xs) (c.listed-k-end.ensures ∙ c.add_steps.ensures.listed)))
-    (i.rest finds.0 finds.1) c.listed.ensures i.listed).newline
+    subst (λ b. get_or b.now (get_or c.listed.result.now c.loop-k.k 0) 0 ≡ newline) (sym c.loop-k.invariant.marks.block)
+    (first_end_of g (goal.at.line_to-line-requires-clause-newline g c).After-listed).newline
 
 pub mark_missed-requires-clause-missed : goal.mark_missed-requires-clause-missed
 mark_missed-requires-clause-missed g c = λ test finds.
@@ -80,9 +87,7 @@ mark_missed-requires-clause-missed g c = λ test finds.
     let offset = c.loop-k.offset in
     let line = subst (λ b. IsLineAfter b.now offset start end) i.marks.block l.line in
     let before = finds_before c.args.search.now c.loop-k.search i.same test finds in
-    let first = next test block c.listed.result.now (listed_ends c.loop-k.search) (listed_ends c.args.search.now) offset c.args.part.end c.loop-k.k
-    i.high c.requires.lines.high (omega (arith, c.loop-k-test.true, ap (λ (xs : List ℕ). length xs) (c.listed-k-end.ensures ∙ c.add_steps.ensures.listed)))
-    (i.rest test before) c.listed.ensures i.listed in
+    let first = first_of g (goal.at.mark_missed-requires-clause-missed g c).After-listed test before in
     subst (λ b. matching_ends test b.now offset start ≡ []) (sym i.marks.block)
     (no_ends test block offset start line.low (omega (arith, line.order, line.high))
     (first_skips test block offset c.args.part.end _ _ c.requires.lines.high first start end l.end line))
@@ -112,15 +117,33 @@ mark_matched-requires-clause-matched g c =
     let search = c.args.search.now in
     let line = subst (λ b. IsLineAfter b.now offset start end) i.marks.block l.line in
     let finds = matching_is_decidable search.matcher.tree in
-    let first = next finds.0 block c.listed.result.now (listed_ends c.loop-k.search) (listed_ends search) offset c.args.part.end c.loop-k.k
-    i.high c.requires.lines.high (omega (arith, c.loop-k-test.true, ap (λ (xs : List ℕ). length xs) (c.listed-k-end.ensures ∙ c.add_steps.ensures.listed)))
-    (i.rest finds.0 finds.1) c.listed.ensures i.listed in
+    let first = first_end_of g (goal.at.mark_matched-requires-clause-matched g c).After-listed in
     let own = take (end - start) (drop start block) in
     let here : HasMatch search.matcher.tree own =
     (finds.1 own).0 (first_matches finds.0 block offset c.args.part.end _ _ c.requires.lines.high first start end l.end line) in
     let kept = keeps_again search c.loop-k.search c.mark_missed.new.search i.same c.mark_missed.ensures.same in
     subst (λ b. HasMatchBy c.mark_missed.new.search (take (end - start) (drop start b.now))) (sym (c.in_ok-place.ensures.marks.block ∙ i.marks.block))
     (subst (λ t. HasMatch t own) (sym kept.0) here)
+
+-- the lines before the next that has a match
+missed : (g : Over) (c : In_ok-place g) → Marks c.args.search.now c.mark_missed.new.search c.args.self.now c.mark_missed.new.self (given c.args.out.now)
+    (given c.mark_missed.new.out) c.args.place c.in_ok-place.place c.line_to-line.result.start
+missed g c =
+    let i = c.loop-k.invariant in
+    marks_then c.args.search.now c.loop-k.search c.mark_missed.new.search c.args.self.now c.loop-k.self c.mark_missed.new.self (given c.args.out.now)
+    (given c.loop-k.out) (given c.mark_missed.new.out) c.args.place c.loop-k.place c.in_ok-place.place c.loop-k.offset c.line_to-line.result.start i.same
+    c.mark_missed.ensures.same i.marks c.in_ok-place.ensures.marks
+
+-- and their steps
+missed_work : (g : Over) (c : In_ok-place g) → WorksWithin (c.args.part.end - c.args.part.start
+    + walks c.args.self.now.page.options.now * (c.in_ok-place.place.held - c.args.place.held)) c.args.search.now.matcher c.mark_missed.new.search.matcher
+missed_work g c =
+    let i = c.loop-k.invariant in
+    let m = c.in_ok-place.ensures in
+    walks_more (c.args.part.end - c.args.part.start) (walks c.args.self.now.page.options.now) c.args.place.held c.loop-k.place.held c.in_ok-place.place.held
+    c.args.search.now.matcher c.loop-k.search.matcher c.mark_missed.new.search.matcher i.marks.rises m.marks.rises i.work
+    (subst (λ page. WorksWithin (walks page.options.now * (c.in_ok-place.place.held - c.loop-k.place.held)) c.loop-k.search.matcher
+    c.mark_missed.new.search.matcher) i.marks.page m.work)
 
 pub returns-in_err-place-2-clause-begins : goal.returns-in_err-place-2-clause-begins
 returns-in_err-place-2-clause-begins g c =
@@ -133,9 +156,7 @@ returns-in_err-place-2-clause-begins g c =
     any_err c.from_residual-in_err-place-2.result
     (begins_then search mid c.mark_matched.new.search c.args.self.now c.mark_missed.new.self (given c.args.out.now) (given c.mark_missed.new.out)
     (given c.mark_matched.new.out) c.args.place c.in_ok-place.place start kept later
-    (marks_then search c.loop-k.search mid c.args.self.now c.loop-k.self c.mark_missed.new.self (given c.args.out.now) (given c.loop-k.out)
-    (given c.mark_missed.new.out) c.args.place c.loop-k.place c.in_ok-place.place c.loop-k.offset start i.same c.mark_missed.ensures.same i.marks
-    c.in_ok-place.ensures.marks) c.in_err-place-2.ensures.begins)
+    (missed g (goal.at.returns-in_err-place-2-clause-begins g c).In_ok-place) c.in_err-place-2.ensures.begins)
 
 pub loop-k-preserved : goal.loop-k-preserved
 loop-k-preserved g c =
@@ -147,26 +168,19 @@ loop-k-preserved g c =
     let offset = c.loop-k.offset in
     let search = c.args.search.now in
     let mid = c.mark_missed.new.search in
-    let within : c.loop-k.k < length (listed_ends search) = omega (arith, c.loop-k-test.true, ap (λ (xs : List ℕ). length xs) (c.listed-k-end.ensures ∙ c.add_steps.ensures.listed)) in
     let line = subst (λ b. IsLineAfter b.now offset start end) i.marks.block l.line in
-    let finds = matching_is_decidable search.matcher.tree in
-    let first = next finds.0 block c.listed.result.now (listed_ends c.loop-k.search) (listed_ends search) offset c.args.part.end c.loop-k.k
-    i.high c.requires.lines.high within (i.rest finds.0 finds.1) c.listed.ensures i.listed in
+    let at = (goal.at.loop-k-preserved g c).After-listed in
     let kept = keeps_again search c.loop-k.search mid i.same c.mark_missed.ensures.same in
     record {
       marks = marks_then search mid c.mark_matched.new.search c.args.self.now c.mark_missed.new.self c.mark_matched.new.self (given c.args.out.now)
           (given c.mark_missed.new.out) (given c.mark_matched.new.out) c.args.place c.in_ok-place.place c.in_ok-place-2.place start (end + 1) kept c.mark_matched.ensures.same
-          (marks_then search c.loop-k.search mid c.args.self.now c.loop-k.self c.mark_missed.new.self (given c.args.out.now) (given c.loop-k.out)
-          (given c.mark_missed.new.out) c.args.place c.loop-k.place c.in_ok-place.place offset start i.same c.mark_missed.ensures.same i.marks
-          c.in_ok-place.ensures.marks) c.in_ok-place-2.ensures.marks;
+          (missed g (goal.at.loop-k-preserved g c).In_ok-place) c.in_ok-place-2.ensures.marks;
       passed = lines_append block c.args.part.start offset (end + 1) i.passed
           (lines_append block offset start (end + 1) (record { low = line.low; high = omega (arith, line.order, line.high); whole = line.before })
           (line_lines block start end (line_alone search.matcher.tree block offset start end line)));
-      high = omega (arith, first.high, l.end);
+      high = omega (arith, (first_end_of g at).high, l.end);
       rest = λ test tests.
-          let first = next test block c.listed.result.now (listed_ends c.loop-k.search) (listed_ends search) offset c.args.part.end c.loop-k.k
-          i.high c.requires.lines.high within (i.rest test tests) c.listed.ensures i.listed in
-          sym first.rest ∙ ap (λ n. matching_ends test block (n + 1) c.args.part.end) (sym l.end);
+          sym (first_of g at test tests).rest ∙ ap (λ n. matching_ends test block (n + 1) c.args.part.end) (sym l.end);
       listed = c.mark_matched.ensures.listed ∙ c.mark_missed.ensures.listed ∙ i.listed;
       same = keeps_again search mid c.mark_matched.new.search kept c.mark_matched.ensures.same;
       budget = stops_again c.args.self.now.page c.mark_missed.new.self.page search mid c.mark_matched.new.search (c.in_ok-place.ensures.marks.page ∙ i.marks.page)
@@ -181,8 +195,7 @@ loop-k-preserved g c =
           let page2 = m1.marks.page ∙ page1 in
           walks_more n times c.args.place.held held c.in_ok-place-2.place.held search.matcher mid.matcher c.mark_matched.new.search.matcher
           (omega (arith, i.marks.rises, m1.marks.rises)) m2.marks.rises
-          (walks_more n times c.args.place.held c.loop-k.place.held held search.matcher c.loop-k.search.matcher mid.matcher i.marks.rises m1.marks.rises i.work
-          (subst (λ page. WorksWithin (walks page.options.now * (held - c.loop-k.place.held)) c.loop-k.search.matcher mid.matcher) page1 m1.work))
+          (missed_work g (goal.at.loop-k-preserved g c).In_ok-place)
           (subst (λ page. WorksWithin (walks page.options.now * (c.in_ok-place-2.place.held - held)) mid.matcher c.mark_matched.new.search.matcher) page2 m2.work);
       keeps = keeps_then g.O.Sink.model g.O.Sink.failed c.args.out.now c.mark_missed.new.out c.mark_matched.new.out
           (keeps_then g.O.Sink.model g.O.Sink.failed c.args.out.now c.loop-k.out c.mark_missed.new.out i.keeps c.mark_missed.ensures.keeps) c.mark_matched.ensures.keeps;
@@ -225,11 +238,7 @@ returns-in_err-place-clause-cut g c =
     let start = c.line_to-line.result.start in
     let p = i.marks.placed in
     let l = c.line_to-line.ensures in
-    let finds = matching_is_decidable c.args.search.now.matcher.tree in
-    let first = next finds.0 c.args.place.block.now c.listed.result.now (listed_ends c.loop-k.search) (listed_ends c.args.search.now) c.loop-k.offset c.args.part.end
-    c.loop-k.k i.high c.requires.lines.high
-    (omega (arith, c.loop-k-test.true, ap (λ (xs : List ℕ). length xs) (c.listed-k-end.ensures ∙ c.add_steps.ensures.listed)))
-    (i.rest finds.0 finds.1) c.listed.ensures i.listed in
+    let first = first_end_of g (goal.at.returns-in_err-place-clause-cut g c).After-listed in
     any_err c.from_residual.result
     (walks_less n times c.args.place.held start c.args.part.end c.args.search.now.matcher c.mark_missed.new.search.matcher
     (omega (arith, first.high, l.end, l.line.order))
@@ -253,17 +262,12 @@ returns-in_err-place-2-clause-cut g c =
     let old = c.args.search.now.matcher in
     let page1 = i.marks.page in
     let page2 = m1.marks.page ∙ page1 in
-    let finds = matching_is_decidable c.args.search.now.matcher.tree in
-    let first = next finds.0 c.args.place.block.now c.listed.result.now (listed_ends c.loop-k.search) (listed_ends c.args.search.now) c.loop-k.offset c.args.part.end
-    c.loop-k.k i.high c.requires.lines.high
-    (omega (arith, c.loop-k-test.true, ap (λ (xs : List ℕ). length xs) (c.listed-k-end.ensures ∙ c.add_steps.ensures.listed)))
-    (i.rest finds.0 finds.1) c.listed.ensures i.listed in
+    let first = first_end_of g (goal.at.returns-in_err-place-2-clause-cut g c).After-listed in
     any_err c.from_residual-in_err-place-2.result
     (walks_less n times c.args.place.held (end + 1) c.args.part.end old new (omega (arith, first.high, l.end))
     (walks_more n times c.args.place.held held (end + 1) old mid new (omega (arith, i.marks.rises, m1.marks.rises))
     (omega (arith, p.order, p.lines.low, l.line.order))
-    (walks_more n times c.args.place.held c.loop-k.place.held held old c.loop-k.search.matcher mid i.marks.rises m1.marks.rises i.work
-    (subst (λ page. WorksWithin (walks page.options.now * (held - c.loop-k.place.held)) c.loop-k.search.matcher mid) page1 m1.work))
+    (missed_work g (goal.at.returns-in_err-place-2-clause-cut g c).In_ok-place)
     (subst (λ page. WorksWithin (walks page.options.now * (end + 1 - held)) mid new) page2 c.in_err-place-2.ensures.cut)))
 
 pub returns-clause-work : goal.returns-clause-work

@@ -19,8 +19,8 @@ use Rattle.cs_lines.proofs.PlaceLemmas.{any_err, begins_then, lines_none, marks_
 use Rattle.cs_tree.proofs.SinkOutputLemmas.{keeps_same, keeps_then}
 use Rattle.cs_lines.proofs.SearchLemmas.{pass_step}
 use Rattle.cs_match.specs.Work.{WorksWithin}
-use Rattle.cs_lines.specs.Work.{line_weight, walks}
-use Rattle.cs_lines.proofs.WorkLemmas.{block_less, block_more, block_none, block_passed, same_weight}
+use Rattle.cs_lines.specs.Work.{line_weight, search_work, walks}
+use Rattle.cs_lines.proofs.WorkLemmas.{block_less, block_more, block_passed, same_weight, works_any}
 use Rattle.cs_lines.proofs.rows.Rows.search_block.Goals as goal
 use Rattle.cs_lines.proofs.rows.Rows.search_block.Goals.{then-lists-test+else-is_open, else-lists-test}
 
@@ -49,7 +49,7 @@ lists-init g c =
       });
       same = keeps_itself c.args.search.now;
       budget = λ alone. refl;
-      work = block_none (walks rows.page.options.now) (line_weight c.args.search.now) (from - from) c.args.search.now.matcher (omega arith);
+      work = works_any (search_work (line_weight c.args.search.now) (from - from) + walks rows.page.options.now * 0) c.args.search.now.matcher;
       low = omega arith;
       keeps = keeps_same g.O.Sink.model g.O.Sink.failed c.args.out.now;
     }

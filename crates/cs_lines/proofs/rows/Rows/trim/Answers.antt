@@ -17,6 +17,7 @@ use Rattle.cs_lines.specs.declared.form.ShowOptions.{ShowOptions}
 use Rattle.cs_lines.specs.declared.rows.Rows.{Rows}
 use Rattle.cs_lines.proofs.NumberLemmas.{alike_by, alike_scan}
 use Rattle.cs_lines.proofs.StreamLemmas.{fits_drop, trim_rows}
+use Rattle.cs_lines.proofs.rows.Rows.trim.Goals.{After-line_count}
 use Rattle.cs_lines.proofs.rows.Rows.trim.Goals as goal
 
 -- the first lines are dropped, `count` many if numbers matter
@@ -85,32 +86,18 @@ module _ (options : ShowOptions) (held : List ℕ) (len lines more : ℕ) (first
       let same : length (terminated_lines (take (length held - len) (drop len held))) ≡ length ys = ap (λ (t : List ℕ). length (terminated_lines t)) (take_rest held len) in
       omega (arith, is, rest, same, ap (λ (ls : List (List ℕ)). length ls) (ended_prefix held len first), length-append xs ys)
 
-pub overflow_add-lines : goal.overflow_add-lines
-overflow_add-lines c =
-    let held = c.args.held.now in
+counted_all : (c : After-line_count) → c.args.known.lines + c.line_count.result ≡ length (terminated_lines c.args.held.now)
+counted_all c =
     let known = c.requires.known in
-    let has = sym c.has_context.ensures ∙ c.if-not-has_context.false in
-    omega (
-      arith,
-      all_lines c.args.self.now.page.options.now held c.args.known.len c.args.known.lines c.line_count.result known.whole (known.lines has)
-          c.line_count.ensures.exact,
-      lines_within held,
-      c.requires.room,
-    )
+    all_lines c.args.self.now.page.options.now c.args.held.now c.args.known.len c.args.known.lines c.line_count.result known.whole
+    (known.lines (sym c.has_context.ensures ∙ c.if-not-has_context.false)) c.line_count.ensures.exact
+
+pub overflow_add-lines : goal.overflow_add-lines
+overflow_add-lines c = omega (arith, counted_all (goal.at.overflow_add-lines c).After-line_count, lines_within c.args.held.now, c.requires.room)
 
 pub overflow_add-self-2 : goal.overflow_add-self-2
 overflow_add-self-2 c =
-    let held = c.args.held.now in
-    let known = c.requires.known in
-    let has = sym c.has_context.ensures ∙ c.if-not-has_context.false in
-    omega (
-      arith,
-      all_lines c.args.self.now.page.options.now held c.args.known.len c.args.known.lines c.line_count.result known.whole (known.lines has)
-          c.line_count.ensures.exact,
-      lines_within held,
-      c.requires.room,
-      c.saturating_sub-extra.ensures,
-    )
+    omega (arith, counted_all (goal.at.overflow_add-self-2 c).After-line_count, lines_within c.args.held.now, c.requires.room, c.saturating_sub-extra.ensures)
 
 -- the numbers of lines that are dropped and kept
 sizes : (held : List ℕ) (start extra all before : ℕ) → AreWholeLines (take start held) → terminated_lines (drop start held) ≡ drop extra (terminated_lines held) →
@@ -132,14 +119,12 @@ pub returns-clause-trimmed : goal.returns-clause-trimmed
 returns-clause-trimmed c =
     let old = c.args.self.now in
     let held = c.args.held.now in
-    let known = c.requires.known in
-    let has = sym c.has_context.ensures ∙ c.if-not-has_context.false in
     let e = c.first_lines-start.ensures in
     let start = c.first_lines-start.result in
     let extra = c.saturating_sub-extra.result in
     let all = c.args.known.lines + c.line_count.result in
     let before = old.page.options.now.before in
-    let is = all_lines old.page.options.now held c.args.known.len c.args.known.lines c.line_count.result known.whole (known.lines has) c.line_count.ensures.exact in
+    let is = counted_all (goal.at.returns-clause-trimmed c).After-line_count in
     let few : extra ≡ all - before = omega (arith, c.saturating_sub-extra.ensures) in
     let n = sizes held start extra all before e.whole e.rest is few in
     let size : start ≡ length held - (length held - start) = omega (arith, e.within) in
@@ -152,13 +137,11 @@ pub returns-clause-counted : goal.returns-clause-counted
 returns-clause-counted c =
     let old = c.args.self.now in
     let held = c.args.held.now in
-    let known = c.requires.known in
-    let has = sym c.has_context.ensures ∙ c.if-not-has_context.false in
     let e = c.first_lines-start.ensures in
     let start = c.first_lines-start.result in
     let extra = c.saturating_sub-extra.result in
     let all = c.args.known.lines + c.line_count.result in
-    let is = all_lines old.page.options.now held c.args.known.len c.args.known.lines c.line_count.result known.whole (known.lines has) c.line_count.ensures.exact in
+    let is = counted_all (goal.at.returns-clause-counted c).After-line_count in
     let n = sizes held start extra all old.page.options.now.before e.whole e.rest is (omega (arith, c.saturating_sub-extra.ensures)) in
     let size : length held - (length held - start) ≡ start = omega (arith, e.within) in
     let rest = drop start held in

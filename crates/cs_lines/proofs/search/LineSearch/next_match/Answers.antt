@@ -15,7 +15,7 @@ use Rattle.cs_lines.specs.Work.{line_weight, search_work}
 use Rattle.cs_lines.specs.declared.search.LineSearch.{LineSearch}
 use Rattle.cs_lines.proofs.BlockLemmas.{lines_from}
 use Rattle.cs_lines.proofs.FindingLemmas.{keeps_again, keeps_itself, matches_same, missed, none_match, tests_same}
-use Rattle.cs_lines.proofs.WorkLemmas.{matched_then, search_none}
+use Rattle.cs_lines.proofs.WorkLemmas.{matched_then, works_any}
 use Rattle.cs_lines.proofs.search.LineSearch.next_match.Goals as goal
 
 none_of : (test : List ℕ → Bool) → NoneMatch test (terminated_lines [])
@@ -34,7 +34,7 @@ lines-init c =
       none = λ test tests. subst (λ n. NoneMatch test (terminated_lines (take n rest))) e (none_of test);
       same = keeps_itself c.args.self.now;
       budget = refl;
-      work = search_none (line_weight c.args.self.now) (c.args.from - c.args.from) c.args.self.now.matcher (omega arith);
+      work = works_any (search_work (line_weight c.args.self.now) (c.args.from - c.args.from)) c.args.self.now.matcher;
     }
 
 -- the search after its matcher has searched

@@ -1,27 +1,30 @@
 -- What is done for a request.
-use Rattle.std.proofs.Common.{◌≡◌, ◌≢◌, map, ℕ, Bool, true, false, List, Option, Some, None, inl, inr, refl, sym, subst}
+use Rattle.std.proofs.Common.{◌≡◌, ◌≢◌, map, ℕ, Bool, true, false, ◌&&◌, List, Option, Some, None, inl, inr, refl, sym, subst, ◌∙◌}
+use Rattle.std.proofs.lemmas.Bool.{false≢true}
 use Rattle.std.specs.Prelude.{◌⊎◌, Result, Ok, Err, IfOk, IsSomeAnd, string_bytes}
 use Rattle.cs_syntax.specs.Matching.{Tree}
 use Rattle.cs_match.specs.SameLines.{MatchSameLines, MatchSameSpans}
 use Rattle.cs_tree.specs.Snapshot.{Item, Snapshot, item_at}
 use Rattle.cs_tree.specs.StreamModels.{SourceModel}
+use Rattle.cs_lines.specs.Findings.{StopsBySpans, has_stopped}
 use Rattle.cs_listing.specs.Choices.{Settings}
 use Rattle.cs_listing.specs.FolderReads.{InTree}
 use Rattle.cs_listing.specs.Listing.{TreeItems}
 use Rattle.cs_listing.specs.Stamps.{Stamps}
 use Rattle.cs_command.specs.Requests.{IsRequest}
 use Rattle.cs_command.specs.declared.request.Request.{Request}
-use Rattle.cs_project.specs.Calls.{AnswersRequest, BeginsList, BeginsProject, BeginsTask, DoesProject, HasBase, IfRead, IsScopeOf, IsSearchFor, ListsFor, SearchesFor, name_end}
+use Rattle.cs_project.specs.Calls.{AnswersRequest, BeginsFor, BeginsList, BeginsProject, BeginsTask, DoesProject, HasBase, IfRead, IsScopeOf, IsSearchFor, ListsFor, SearchesFor, name_end}
 use Rattle.cs_project.specs.Knowledge.{HoldsFor, HoldsIfAsked, SearchedTree, asked_as, by_names}
 use Rattle.cs_project.specs.Projects.{FindsInProject, ListsProject, SearchesProject}
-use Rattle.cs_project.specs.Scopes.{AreFirstItemsOf, ForItems, no_bytes}
-use Rattle.cs_project.specs.Searched.{BeginsNames}
-use Rattle.cs_project.specs.Sources.{InInput, unread}
+use Rattle.cs_project.specs.Scopes.{AreFirstItemsOf, ForItems, InInput, no_bytes, unread}
+use Rattle.cs_project.specs.Searched.{BeginsNames, is_cut}
+use Rattle.cs_project.specs.Visits.{BeginsItems, may_cut}
 use Rattle.cs_project.specs.declared.call.ProjectCall.{ProjectCall}
 use Rattle.cs_project.specs.declared.file_search.FileSearch.{FileSearch}
 use Rattle.cs_project.specs.declared.knowledge.AskedSearch.{AskedSearch}
 use Rattle.cs_project.specs.declared.scope.Scope.{Scope}
 use Rattle.cs_project.proofs.ScopeLemmas.{if_input}
+use Rattle.cs_project.proofs.TextLemmas.{begun_as}
 use Rattle.cs_project.proofs.VisitorLemmas.{in_any, in_same}
 
 pub lists_for : {E : Type 0} (snapshot : Option Snapshot) (call : ProjectCall) (request : Request) (scope : Scope)
@@ -46,18 +49,14 @@ list_begun snapshot now call request scope end given later same is ends has = in
 pub none_begun : (snapshot : Option Snapshot) (P : TreeItems → Type 0) (given : List ℕ) → InTree snapshot (λ items. (given ≡ given) ⊎ P items)
 none_begun snapshot P given = in_any snapshot (λ items. (given ≡ given) ⊎ P items) (λ items. inl refl)
 
-pub project_begun : (snapshot now : Option Snapshot) (call : ProjectCall) (base : Settings) (request : Request) (given later : List ℕ) →
-    now ≡ snapshot → InTree snapshot (λ items. HasBase items call base) → IsRequest (map string_bytes call.words.now) base request →
-    InTree now (λ items. BeginsTask items call request request.switches.task given later) →
-    InTree snapshot (λ items. BeginsProject items call given later)
-project_begun None now call base request given later same has is begins = tt
-project_begun (Some tree) now call base request given later same has is begins = inr (
-  base,
-  request,
-  has,
-  is,
-  subst (λ s. InTree s (λ items. BeginsTask items call request request.switches.task given later)) same begins,
-)
+pub unsearched : (Knows : FileSearch → Type 0) (snapshot : Option Snapshot) (model : Option SourceModel) (call : ProjectCall) (request : Request)
+    (silent : Bool) (given : List ℕ) → InTree snapshot (λ items. BeginsFor Knows items model call request silent given given)
+unsearched Knows snapshot model call request silent given =
+    in_any snapshot (λ items. BeginsFor Knows items model call request silent given given) (λ items. by_silent items silent)
+  where
+    by_silent : (items : TreeItems) (silent : Bool) → BeginsFor Knows items model call request silent given given
+    by_silent items true = refl
+    by_silent items false = inl refl
 
 -- ---- what is known
 
@@ -94,6 +93,22 @@ searches_if_read Own Given stamps snapshot model call request silent given later
 searches_if_read Own Given stamps snapshot model call request silent given later (Ok status) holds says =
     if_input (unread false model) (λ input. trusted_in (HoldsFor Own stamps snapshot) (IfRead request (HoldsFor Given stamps snapshot)) holds
     snapshot input call request silent given later status) says
+
+begun_trusted : (Knows Trusted : FileSearch → Type 0) → ((search : FileSearch) → Trusted search → Knows search) →
+    (items : TreeItems) (model : Option SourceModel) (call : ProjectCall) (request : Request) (silent : Bool) (given later : List ℕ) →
+    BeginsFor Knows items model call request silent given later → BeginsFor Trusted items model call request silent given later
+begun_trusted Knows Trusted holds items model call request true given later none = none
+begun_trusted Knows Trusted holds items model call request false given later (inl none) = inl none
+begun_trusted Knows Trusted holds items model call request false given later (inr some) =
+    inr (if_input (unread false model) (λ input all. (all.0, all.1, all.2, all.3, λ known. all.4 (holds all.1 known))) some)
+
+pub begun_if_read : (Knows Trusted : FileSearch → Type 0) → ((search : FileSearch) → Trusted search → Knows search) →
+    (snapshot : Option Snapshot) (model : Option SourceModel) (call : ProjectCall) (request : Request) (silent : Bool) (given later : List ℕ) →
+    InTree snapshot (λ items. BeginsFor Knows items model call request silent given later) →
+    InTree snapshot (λ items. BeginsFor Trusted items model call request silent given later)
+begun_if_read Knows Trusted holds snapshot model call request silent given later has = in_same snapshot snapshot
+    (λ items. BeginsFor Knows items model call request silent given later) (λ items. BeginsFor Trusted items model call request silent given later) refl
+    (λ items. begun_trusted Knows Trusted holds items model call request silent given later) has
 
 -- nothing is known
 pub nothing_known : (stamps : Snapshot → Stamps) (snapshot : Option Snapshot) (search : FileSearch) → HoldsFor (λ _. Unit {0}) stamps snapshot search
@@ -162,6 +177,49 @@ module _ (Holds : SearchedTree → Type 0) (stamps : Snapshot → Stamps) where
   searches_for snapshot now model call request scope search given later (Err fault) same is for searches = tt
   searches_for snapshot now model call request scope search given later (Ok status) same is for searches =
       if_input (unread false model) (search_done snapshot now call request scope search given later status same is for) searches
+
+  -- of a search that has begun with its budget
+  pub begun_for : (snapshot now : Option Snapshot) (model : Option SourceModel) (call : ProjectCall) (request : Request) (scope : Scope)
+      (old new : FileSearch) (given later : List ℕ) → now ≡ snapshot → IsScopeOf call request scope →
+      InTree snapshot (λ items. IsSearchFor items call request scope old) → has_stopped old.search ≡ false →
+      StopsBySpans old.options.form old.search new.search →
+      InInput model (λ input. HoldsFor Holds stamps now old → InTree now (λ items. ForItems (AreFirstItemsOf items input scope)
+      (λ named. BeginsItems old new named given later))) →
+      InTree snapshot (λ items. BeginsFor (HoldsFor Holds stamps snapshot) items model call request false given later)
+  begun_for None now model call request scope old new given later same is for begun stops has = tt
+  begun_for (Some tree) now model call request scope old new given later same is for begun stops has =
+      inr (if_input (unread false model) (λ input says. (
+        scope,
+        old,
+        is,
+        for,
+        λ known plain.
+            let some = (subst (λ s. InTree s (λ items. ForItems (AreFirstItemsOf items input scope) (λ named. BeginsItems old new named given later))) same
+            (says (subst (λ s. HoldsFor Holds stamps s old) (sym same) known))) in (
+              some.0,
+              some.1,
+              λ finding found. begun_as old.options old.binary finding (may_cut new) is_cut
+                  (λ item. cut_if new.reports.wrong (is_cut item)) some.0 old.marked given later (some.2 (stops plain ∙ begun) finding found),
+            ),
+      )) has)
+    where
+      cut_if : (wrong cut : Bool) → (wrong && cut) ≡ true → cut ≡ true
+      cut_if true cut e = e
+      cut_if false cut e = absurd (false≢true e)
+
+  pub project_begun : (snapshot now : Option Snapshot) (model : Option SourceModel) (call : ProjectCall) (base : Settings) (request : Request)
+      (given later : List ℕ) → now ≡ snapshot → InTree snapshot (λ items. HasBase items call base) →
+      IsRequest (map string_bytes call.words.now) base request →
+      InTree now (λ items. BeginsTask (HoldsFor Holds stamps now) items model call request request.switches.task given later) →
+      InTree snapshot (λ items. BeginsProject (HoldsFor Holds stamps snapshot) items model call given later)
+  project_begun None now model call base request given later same has is begins = tt
+  project_begun (Some tree) now model call base request given later same has is begins = inr (
+    base,
+    request,
+    has,
+    is,
+    subst (λ s. InTree s (λ items. BeginsTask (HoldsFor Holds stamps s) items model call request request.switches.task given later)) same begins,
+  )
 
   find_done : (snapshot now : Option Snapshot) (call : ProjectCall) (request : Request) (scope : Scope) (search : FileSearch)
       (given later : List ℕ) (status : ℕ) → now ≡ snapshot → later ≡ given → IsScopeOf call request scope →

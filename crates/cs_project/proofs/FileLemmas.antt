@@ -1,154 +1,167 @@
 -- A file of the tree.
-use Rattle.std.proofs.Common.{◌≡◌, ℕ, Bool, true, false, ◌||◌, List, [], ◌∷◌, ◌++◌, append-nil, Option, Some, None, Result, Ok, Err, refl, sym, ap, subst, ◌∙◌}
-use Rattle.std.specs.Prelude.{is_ok}
+use Rattle.std.proofs.Common.{◌≡◌, ◌≤◌, ℕ, ◌^◌, Bool, true, false, ◌&&◌, ◌||◌, nat_lt, List, [], ◌∷◌, ◌++◌, length, Option, Some, None, Result, Ok, Err, inl, inr, refl, sym, ap, subst, ◌∙◌, arith}
+use Rattle.std.specs.Prelude.{◌⊎◌, is_ok}
 use Rattle.std.proofs.lemmas.Bool.{false≢true}
-use Rattle.cs_tree.specs.Snapshot.{Item, Snapshot, item_at, folder, file, cut, other, bad, missing, denied, failed}
-use Rattle.cs_tree.specs.StreamModels.{SourceModel}
+use Rattle.std.proofs.lemmas.Bool.Decides.{nat_tests}
+use Rattle.cs_tree.specs.Snapshot.{Item, Snapshot, item_at, folder, file, cut, other, bad}
+use Rattle.cs_tree.specs.StreamModels.{Ending, SourceModel, ends, fails}
 use Rattle.cs_tree.specs.Trees.{OpensFile, OpensFileAs}
 use Rattle.cs_tree.specs.TreeAnswers.{opening_of}
 use Rattle.cs_tree.specs.TreeReaders.{open_model}
 use Rattle.cs_tree.specs.declared.fault.TreeFault.{TreeFault}
-use Rattle.cs_tree.specs.declared.fault.TreeFault.TheVariants.{Missing, Denied, Output, Failed, Memory}
+use Rattle.cs_tree.specs.declared.fault.TreeFault.TheVariants.{Missing, Memory}
 use Rattle.cs_listing.specs.FolderReads.{InTree}
-use Rattle.cs_lines.specs.Printed.{PrintsItem}
-use Rattle.cs_lines.specs.Project.{searched_as, text_shown}
+use Rattle.cs_lines.specs.Findings.{Finding, IsFoundBy, has_stopped}
+use Rattle.cs_lines.specs.Printed.{item_bytes}
+use Rattle.cs_lines.specs.Project.{ItemShown, shown_as, searched_as, text_shown}
 use Rattle.cs_lines.specs.Shown.{between, following}
-use Rattle.cs_lines.specs.Streamed.{is_whole}
-use Rattle.cs_lines.specs.Streams.{BeginsFile, PrintsFile}
+use Rattle.cs_lines.specs.Streamed.{ReadsToEnd, is_whole}
+use Rattle.cs_lines.specs.Streams.{BeginsFile, FindsInFile, PrintsFile}
 use Rattle.cs_lines.specs.declared.binary.BinaryFiles.{BinaryFiles}
+use Rattle.cs_lines.specs.declared.form.ShowOptions.{ShowOptions}
 use Rattle.cs_lines.specs.declared.rows.Page.{Page}
 use Rattle.cs_lines.specs.declared.stream.Streamed.{Streamed}
 use Rattle.cs_project.specs.Reports.{MayReport}
-use Rattle.cs_project.specs.Searched.{BeginsItems, ShowsItems, binary_as, items_printed}
-use Rattle.cs_project.specs.Sources.{BeginsSource, ShowsSource}
+use Rattle.cs_project.specs.Scopes.{InInput, source_item}
+use Rattle.cs_project.specs.Searched.{NamedItem, binary_as, is_cut, item_groups, shown_of}
+use Rattle.cs_project.specs.Visits.{BeginsItems, FindsAmong, ShowsItems, may_cut}
 use Rattle.cs_project.specs.declared.file_search.FileSearch.{FileSearch}
-use Rattle.cs_project.proofs.TextLemmas.{shows_text, shows_wrong, shows_nothing}
+use Rattle.cs_project.proofs.TextLemmas.{nothing_printed, one_begun, one_printed, shows_nothing}
 
-pub source_shown : (old new : FileSearch) (page : Page) (name : List ℕ) (named : Bool) (binary : BinaryFiles) (model : Option SourceModel)
-    (given later : List ℕ) (streamed : Streamed) → PrintsFile old.search new.search page binary model given later streamed →
-    binary ≡ binary_as old.binary named → page.options.now ≡ old.options → page.name.now ≡ name → page.begun ≡ old.marked →
-    new.marked ≡ (old.marked || streamed.marked) → is_whole streamed.ended ≡ true → ShowsSource old new name named model given later
-source_shown old new page name named binaries None given later streamed prints chosen options at begun marks whole = tt
-source_shown old new page name named binaries (Some source) given later streamed prints chosen options at begun marks whole =
-    shows_text old new page name source.bytes given later streamed.marked (file source.bytes) named (λ o f b. refl) options at begun marks
-    (subst (λ b. PrintsItem old.search new.search page (searched_as b source.bytes) source.bytes given later streamed.marked) chosen (prints whole))
+-- ---- a source
 
-pub source_begun : (old new : FileSearch) (page : Page) (name : List ℕ) (named : Bool) (binary : BinaryFiles) (model : Option SourceModel)
-    (given later : List ℕ) → BeginsFile old.search new.search page binary model given later → binary ≡ binary_as old.binary named →
-    page.options.now ≡ old.options → page.name.now ≡ name → page.begun ≡ old.marked → BeginsSource old new name named model given later
-source_begun old new page name named binaries None given later begins chosen options at begun = tt
-source_begun old new page name named binaries (Some source) given later begins chosen options at begun = λ running finding found.
-    let bytes = source.bytes in
-    let p = begins running finding found in
-    let same = ap (λ b. given ++ following (between page.options.now) b (text_shown page.options.now finding page.name.now binaries bytes).groups) begun
-    ∙ ap (λ o. given ++ following (between o) old.marked (text_shown o finding page.name.now binaries bytes).groups) options
-    ∙ ap (λ n. given ++ following (between old.options) old.marked (text_shown old.options finding n binaries bytes).groups) at
-    ∙ ap (λ k. given ++ following (between old.options) old.marked (text_shown old.options finding name k bytes).groups) chosen
-    ∙ ap (λ r. given ++ r) (sym (append-nil (following (between old.options) old.marked
-    (text_shown old.options finding name (binary_as old.binary named) bytes).groups))) in
-    (p.0, sym same ∙ p.1)
+-- what is printed for it, however it ends
+shown_by : (options : ShowOptions) (finding : Finding) (kind : BinaryFiles) (name bytes : List ℕ) (ending : Ending) →
+    text_shown options finding name kind bytes ≡ item_groups options finding kind name (source_item (record { bytes = bytes; ending = ending }))
+shown_by options finding kind name bytes ends = refl
+shown_by options finding kind name bytes fails = refl
 
-pub source_wrong : (old new : FileSearch) (name : List ℕ) (named : Bool) (model : Option SourceModel) (given later : List ℕ) →
-    new.reports.wrong ≡ true → ShowsSource old new name named model given later
-source_wrong old new name named None given later wrong = tt
-source_wrong old new name named (Some source) given later wrong = shows_wrong old new ((name, file source.bytes, named) ∷ []) given later wrong
+-- it is cut if it is not read to its end
+cut_by : (bytes : List ℕ) (ending : Ending) (whole : Bool) → (ending ≡ ends → length bytes ≤ 2 ^ 62 → whole ≡ true) → whole ≡ false →
+    is_cut (source_item (record { bytes = bytes; ending = ending })) ≡ true
+cut_by bytes fails whole reads part = refl
+cut_by bytes ends whole reads part = by_size (nat_lt (2 ^ 62) (length bytes)) refl
+  where
+    by_size : (b : Bool) → nat_lt (2 ^ 62) (length bytes) ≡ b → b ≡ true
+    by_size true e = refl
+    by_size false e = let low : length bytes ≤ 2 ^ 62 = grind (arith, nat_tests, e) in absurd (false≢true (sym part ∙ reads refl low))
 
--- what is said of the item at a path
-abbrev pub ShowsPath : FileSearch → FileSearch → List ℕ → Bool → Option Snapshot → List ℕ → List ℕ → List ℕ → Type 0
-ShowsPath old new name named snapshot path given later =
-    InTree snapshot (λ items. ShowsItems old new ((name, items path, named) ∷ []) given later)
+-- a page for a search, whose name, options and kind are these
+module _ (old new : FileSearch) (page : Page) (name : List ℕ) (named : Bool) (binaries : BinaryFiles) (chosen : binaries ≡ binary_as old.binary named)
+    (options : page.options.now ≡ old.options) (at : page.name.now ≡ name) where
+  shown_for : (source : SourceModel) (finding : Finding) →
+      shown_as page.options.now finding page.name.now (searched_as binaries source.bytes) source.bytes
+      ≡ shown_of old.options old.binary finding (name, source_item source, named)
+  shown_for source finding = ap (λ o. text_shown o finding page.name.now binaries source.bytes) options
+      ∙ ap (λ n. text_shown old.options finding n binaries source.bytes) at
+      ∙ ap (λ k. text_shown old.options finding name k source.bytes) chosen
+      ∙ shown_by old.options finding (binary_as old.binary named) name source.bytes source.ending
 
--- a file that was opened
-item_opened : (item : Item) (model : Option SourceModel) (old new : FileSearch) (name : List ℕ) (named : Bool) (given later : List ℕ) →
-    OpensFileAs {A = Unit {0}} (Ok tt) (opening_of item) model → ShowsSource old new name named model given later →
-    ShowsItems old new ((name, item, named) ∷ []) given later
-item_opened (folder names unnamed) model old new name named given later opens shows = absurd opens
-item_opened (file bytes) model old new name named given later opens shows = subst (λ m. ShowsSource old new name named m given later) opens shows
-item_opened (cut bytes) model old new name named given later opens shows = subst (λ m. ShowsSource old new name named m given later) opens shows
-item_opened other model old new name named given later opens shows = absurd opens
-item_opened (bad fault) model old new name named given later opens shows = absurd opens
+  all_for : (source : SourceModel) (finding : Finding) (given : List ℕ) → page.begun ≡ old.marked →
+      given ++ item_bytes page (shown_as page.options.now finding page.name.now (searched_as binaries source.bytes) source.bytes)
+      ≡ given ++ following (between old.options) old.marked (shown_of old.options old.binary finding (name, source_item source, named)).groups
+  all_for source finding given begun =
+      let shown = shown_as page.options.now finding page.name.now (searched_as binaries source.bytes) source.bytes in
+      ap (λ o. given ++ following (between o) page.begun shown.groups) options
+      ∙ ap (λ b. given ++ following (between old.options) b shown.groups) begun
+      ∙ ap (λ (s : ItemShown). given ++ following (between old.options) old.marked s.groups) (shown_for source finding)
 
-pub path_opened : (snapshot : Option Snapshot) (opened : Option SourceModel) (old new : FileSearch) (name : List ℕ) (named : Bool)
-    (path given later : List ℕ) → OpensFile {A = Unit {0}} snapshot path (Ok tt) opened →
-    ShowsSource old new name named (open_model snapshot opened) given later → ShowsPath old new name named snapshot path given later
-path_opened None opened old new name named path given later opens shows = tt
-path_opened (Some tree) opened old new name named path given later opens shows =
-    item_opened (item_at tree path) opened old new name named given later opens shows
+  -- it was read to its end, or as far as it matters
+  pub source_shown : (model : Option SourceModel) (given later : List ℕ) (streamed : Streamed) →
+      PrintsFile old.search new.search page binaries model given later streamed → page.begun ≡ old.marked →
+      new.marked ≡ (old.marked || streamed.marked) → is_whole streamed.ended ≡ true →
+      InInput model (λ item. ShowsItems old new ((name, item, named) ∷ []) given later)
+  source_shown None given later streamed prints begun marks whole = tt
+  source_shown (Some source) given later streamed prints begun marks whole = λ running finding found.
+      let p = prints whole running finding found in
+      one_printed old.options old.binary finding (may_cut new) (name, source_item source, named) old.marked new.marked given later (inl (
+        p.0 ∙ all_for source finding given begun,
+        marks ∙ ap (λ m. old.marked || m) (p.1 ∙ ap (λ (s : ItemShown). s.marked) (shown_for source finding)),
+      ))
 
--- what was printed begins what is printed for the item at a path
-abbrev pub BeginsPath : FileSearch → FileSearch → List ℕ → Bool → Option Snapshot → List ℕ → List ℕ → List ℕ → Type 0
-BeginsPath old new name named snapshot path given later =
-    InTree snapshot (λ items. BeginsItems old new ((name, items path, named) ∷ []) given later)
+  -- it was not, and this was reported
+  pub source_cut : (model : Option SourceModel) (given later : List ℕ) (streamed : Streamed) →
+      BeginsFile old.search new.search page binaries model given later → FindsInFile old.search new.search page binaries model streamed →
+      ReadsToEnd (2 ^ 62) model streamed.ended → page.begun ≡ old.marked → new.marked ≡ (old.marked || streamed.marked) →
+      is_whole streamed.ended ≡ false → new.reports.wrong ≡ true →
+      InInput model (λ item. ShowsItems old new ((name, item, named) ∷ []) given later)
+  source_cut None given later streamed begins finds reads begun marks part wrong = tt
+  source_cut (Some source) given later streamed begins finds reads begun marks part wrong = λ running finding found.
+      let p = begins running finding found in
+      let shown = shown_of old.options old.binary finding (name, source_item source, named) in
+      one_printed old.options old.binary finding (may_cut new) (name, source_item source, named) old.marked new.marked given later (inr (
+        ap (λ w. w && is_cut (source_item source)) wrong ∙ cut_by source.bytes source.ending (is_whole streamed.ended) reads part,
+        (p.0, sym (all_for source finding given begun) ∙ p.1),
+        by_mark streamed.marked marks (λ is. ap (λ (s : ItemShown). s.marked) (sym (shown_for source finding)) ∙ finds running finding found is),
+      ))
+    where
+      by_mark : {all : Bool} (here : Bool) → new.marked ≡ (old.marked || here) → (here ≡ true → all ≡ true) →
+          (new.marked ≡ old.marked) ⊎ (new.marked ≡ (old.marked || all))
+      by_mark true e is = inr (e ∙ ap (λ m. old.marked || m) (sym (is refl)))
+      by_mark false e is = inl (e ∙ or_false old.marked)
+        where
+          or_false : (b : Bool) → (b || false) ≡ b
+          or_false true = refl
+          or_false false = refl
 
-item_begun : (item : Item) (model : Option SourceModel) (old new : FileSearch) (name : List ℕ) (named : Bool) (given later : List ℕ) →
-    OpensFileAs {A = Unit {0}} (Ok tt) (opening_of item) model → BeginsSource old new name named model given later →
-    BeginsItems old new ((name, item, named) ∷ []) given later
-item_begun (folder names unnamed) model old new name named given later opens begins = absurd opens
-item_begun (file bytes) model old new name named given later opens begins = subst (λ m. BeginsSource old new name named m given later) opens begins
-item_begun (cut bytes) model old new name named given later opens begins = subst (λ m. BeginsSource old new name named m given later) opens begins
-item_begun other model old new name named given later opens begins = absurd opens
-item_begun (bad fault) model old new name named given later opens begins = absurd opens
+  -- also after an error
+  pub source_begun : (model : Option SourceModel) (given later : List ℕ) → BeginsFile old.search new.search page binaries model given later →
+      page.begun ≡ old.marked → InInput model (λ item. BeginsItems old new ((name, item, named) ∷ []) given later)
+  source_begun None given later begins begun = tt
+  source_begun (Some source) given later begins begun = λ running finding found.
+      let p = begins running finding found in
+      one_begun old.options old.binary finding (may_cut new) (name, source_item source, named) old.marked given later
+      (p.0, sym (all_for source finding given begun) ∙ p.1)
 
-pub path_begun : (snapshot : Option Snapshot) (opened : Option SourceModel) (old new : FileSearch) (name : List ℕ) (named : Bool)
-    (path given later : List ℕ) → OpensFile {A = Unit {0}} snapshot path (Ok tt) opened →
-    BeginsSource old new name named (open_model snapshot opened) given later → BeginsPath old new name named snapshot path given later
-path_begun None opened old new name named path given later opens begins = tt
-path_begun (Some tree) opened old new name named path given later opens begins =
-    item_begun (item_at tree path) opened old new name named given later opens begins
+-- ---- the item at a path
+
+item_opened : (item : Item) (model : Option SourceModel) (P : Item → Type 0) → OpensFileAs {A = Unit {0}} (Ok tt) (opening_of item) model →
+    InInput model P → P item
+item_opened (folder names unnamed) model P opens has = absurd opens
+item_opened (file bytes) model P opens has = subst (λ m. InInput m P) opens has
+item_opened (cut bytes) model P opens has = subst (λ m. InInput m P) opens has
+item_opened other model P opens has = absurd opens
+item_opened (bad fault) model P opens has = absurd opens
+
+-- what holds of the source that was opened, which a reader has
+pub path_opened : (snapshot : Option Snapshot) (opened model : Option SourceModel) (path : List ℕ) (P : Item → Type 0) →
+    OpensFile {A = Unit {0}} snapshot path (Ok tt) opened → model ≡ open_model snapshot opened → InInput model P →
+    InTree snapshot (λ items. P (items path))
+path_opened None opened model path P opens same has = tt
+path_opened (Some tree) opened model path P opens same has =
+    item_opened (item_at tree path) opened P opens (subst (λ m. InInput m P) same has)
 
 -- where nothing is printed
 pub path_unbegun : (snapshot : Option Snapshot) (old new : FileSearch) (name : List ℕ) (named : Bool) (path given : List ℕ) →
-    BeginsPath old new name named snapshot path given given
+    InTree snapshot (λ items. BeginsItems old new ((name, items path, named) ∷ []) given given)
 path_unbegun None old new name named path given = tt
 path_unbegun (Some tree) old new name named path given = λ running finding found.
-    (items_printed old.options old.binary finding old.marked ((name, item_at tree path, named) ∷ []), refl)
+    let item : NamedItem = (name, item_at tree path, named) in
+    one_begun old.options old.binary finding (may_cut new) item old.marked given given
+    (following (between old.options) old.marked (shown_of old.options old.binary finding item).groups, refl)
 
--- no item is the output
-abbrev is_output : {A : Type 0} → Result A TreeFault → Bool
-is_output (Ok answer) = false
-is_output (Err Missing) = false
-is_output (Err Denied) = false
-is_output (Err Output) = true
-is_output (Err Failed) = false
-is_output (Err Memory) = false
+-- an item that cannot be opened prints nothing
+item_refused : (item : Item) (fault : TreeFault) (old new : FileSearch) (name : List ℕ) (named : Bool) (given : List ℕ) →
+    opening_of item ≡ Err fault → new.marked ≡ old.marked → ShowsItems old new ((name, item, named) ∷ []) given given
+item_refused (folder names unnamed) fault old new name named given e same =
+    shows_nothing old new (name, folder names unnamed, named) given (λ finding. refl) same
+item_refused (file bytes) fault old new name named given e same = absurd (false≢true (sym (ap is_ok e)))
+item_refused (cut bytes) fault old new name named given e same = absurd (false≢true (sym (ap is_ok e)))
+item_refused other fault old new name named given e same = shows_nothing old new (name, other, named) given (λ finding. refl) same
+item_refused (bad error) fault old new name named given e same = shows_nothing old new (name, bad error, named) given (λ finding. refl) same
 
-no_output : (item : Item) → is_output (opening_of item) ≡ false
-no_output (folder names unnamed) = refl
-no_output (file bytes) = refl
-no_output (cut bytes) = refl
-no_output other = refl
-no_output (bad missing) = refl
-no_output (bad denied) = refl
-no_output (bad failed) = refl
+pub path_missing : (snapshot : Option Snapshot) (opened : Option SourceModel) (old new : FileSearch) (name : List ℕ) (named : Bool)
+    (path given : List ℕ) → OpensFile {A = Unit {0}} snapshot path (Err Missing) opened → new.marked ≡ old.marked →
+    InTree snapshot (λ items. ShowsItems old new ((name, items path, named) ∷ []) given given)
+path_missing None opened old new name named path given opens same = tt
+path_missing (Some tree) opened old new name named path given opens same =
+    item_refused (item_at tree path) Missing old new name named given opens.0 same
 
--- a file that is gone prints nothing
-item_gone : (item : Item) (old new : FileSearch) (name : List ℕ) (named : Bool) (given : List ℕ) → opening_of item ≡ Err Missing →
-    new.marked ≡ old.marked → ShowsItems old new ((name, item, named) ∷ []) given given
-item_gone (folder names unnamed) old new name named given e same = shows_nothing old new name (folder names unnamed) named given (λ o f b. refl) same
-item_gone (file bytes) old new name named given e same = absurd (false≢true (sym (ap is_ok e)))
-item_gone (cut bytes) old new name named given e same = absurd (false≢true (sym (ap is_ok e)))
-item_gone other old new name named given e same = shows_nothing old new name other named given (λ o f b. refl) same
-item_gone (bad fault) old new name named given e same = shows_nothing old new name (bad fault) named given (λ o f b. refl) same
-
--- a file that was reported
-pub path_reported : (snapshot : Option Snapshot) (old new : FileSearch) (name : List ℕ) (named : Bool) (path given later : List ℕ) →
-    new.reports.wrong ≡ true → ShowsPath old new name named snapshot path given later
-path_reported None old new name named path given later wrong = tt
-path_reported (Some tree) old new name named path given later wrong =
-    shows_wrong old new ((name, item_at tree path, named) ∷ []) given later wrong
-
--- a file that was not opened
 pub path_refused : (snapshot : Option Snapshot) (fault : TreeFault) (opened : Option SourceModel) (old new : FileSearch)
     (name : List ℕ) (named : Bool) (path given : List ℕ) → OpensFile {A = Unit {0}} snapshot path (Err fault) opened →
     MayReport fault old.reports.wrong new.reports.wrong → new.marked ≡ old.marked →
-    ShowsPath old new name named snapshot path given given
+    InTree snapshot (λ items. ShowsItems old new ((name, items path, named) ∷ []) given given)
 path_refused None fault opened old new name named path given opens reports same = tt
-path_refused (Some tree) Missing opened old new name named path given opens reports same =
-    item_gone (item_at tree path) old new name named given opens.0 same
-path_refused (Some tree) Output opened old new name named path given opens reports same =
-    absurd (false≢true (sym (no_output (item_at tree path)) ∙ ap is_output opens.0))
-path_refused (Some tree) Denied opened old new name named path given opens reports same =
-    shows_wrong old new ((name, item_at tree path, named) ∷ []) given given reports
-path_refused (Some tree) Failed opened old new name named path given opens reports same =
-    shows_wrong old new ((name, item_at tree path, named) ∷ []) given given reports
 path_refused (Some tree) Memory opened old new name named path given opens reports same = absurd reports
+path_refused (Some tree) fault opened old new name named path given opens reports same =
+    item_refused (item_at tree path) fault old new name named given opens.0 same

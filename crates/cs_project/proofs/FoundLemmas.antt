@@ -1,29 +1,18 @@
 -- Marked lines that a search has come to.
-use Rattle.std.proofs.Common.{◌≡◌, ℕ, Bool, true, false, ◌||◌, List, [], ◌∷◌, ◌++◌, map, length, Option, Some, None, Ok, inl, inr, refl, sym, ap, subst, ◌∙◌}
+use Rattle.std.proofs.Common.{◌≡◌, ℕ, Bool, true, false, List, [], ◌∷◌, ◌++◌, map, length, inl, inr, refl, sym, ap, subst, ◌∙◌}
 use Rattle.std.specs.Prelude.{◌⊎◌}
 use Rattle.std.specs.List.{AllByRecursion}
 use Rattle.std.proofs.lemmas.Bool.{false≢true}
 use Rattle.cs_tree.specs.PathParts.{texts}
-use Rattle.cs_tree.specs.Snapshot.{Item, Snapshot, item_at, folder, file, cut, other, bad}
-use Rattle.cs_tree.specs.StreamModels.{SourceModel}
-use Rattle.cs_tree.specs.Trees.{OpensFile, OpensFileAs}
-use Rattle.cs_tree.specs.TreeAnswers.{opening_of}
-use Rattle.cs_tree.specs.TreeReaders.{open_model}
+use Rattle.cs_tree.specs.Snapshot.{Item}
 use Rattle.cs_listing.specs.Choices.{Settings, within_depth}
-use Rattle.cs_listing.specs.FolderReads.{InTree}
 use Rattle.cs_listing.specs.Listing.{TreeItems, is_found}
 use Rattle.cs_listing.specs.Models.{chosen_in}
 use Rattle.cs_listing.specs.PathNames.{names_along}
 use Rattle.cs_listing.specs.Walk.{path_text}
-use Rattle.cs_lines.specs.Project.{text_shown}
-use Rattle.cs_lines.specs.Streams.{FindsInFile}
-use Rattle.cs_lines.specs.declared.binary.BinaryFiles.{BinaryFiles}
-use Rattle.cs_lines.specs.declared.rows.Page.{Page}
-use Rattle.cs_lines.specs.declared.stream.Streamed.{Streamed}
 use Rattle.cs_project.specs.Scopes.{AreAt, AreFilesBelow, AreFirstAt, AreFirstBelow, AreFirstIf, AreFirstItemsOf, AreFirstMeant, AreFirstOfAll, AreThereIf, GivesSome, IsAnyNamed, IsAt, IsFileBelow, IsItemOf, IsMeant, IsNamedIf, file_below, is_input, leads_to_folder, left_if, path_in}
-use Rattle.cs_project.specs.Searched.{IsMarked, KeepsForm, NamedItem, binary_as, shown_of}
-use Rattle.cs_project.specs.Sources.{FindsAmong, FindsInSource}
-use Rattle.cs_project.specs.Visits.{IsAmong}
+use Rattle.cs_project.specs.Searched.{IsMarked, NamedItem, shown_of}
+use Rattle.cs_project.specs.Visits.{FindsAmong, IsAmong, KeepsForm}
 use Rattle.cs_project.specs.declared.file_search.FileSearch.{FileSearch}
 use Rattle.cs_project.specs.declared.scope.Scope.{Scope}
 use Rattle.cs_project.proofs.SearchLemmas.{still_found}
@@ -54,43 +43,6 @@ found_more old mid new P kept keeps had has = by_mark mid.marked refl
     by_mark : (m : Bool) → mid.marked ≡ m → FindsAmong old new P
     by_mark true e marks none running = had e none ((keeps.2).3 running)
     by_mark false e marks none running = let h = has marks e running in (h.0, h.1, marked_before old mid kept h.0 h.2)
-
--- ---- a file
-
-pub found_source : (old new : FileSearch) (page : Page) (name : List ℕ) (named : Bool) (binary : BinaryFiles) (model : Option SourceModel)
-    (streamed : Streamed) → FindsInFile old.search new.search page binary model streamed → binary ≡ binary_as old.binary named →
-    page.options.now ≡ old.options → page.name.now ≡ name → new.marked ≡ (old.marked || streamed.marked) →
-    FindsInSource old new name named model
-found_source old new page name named binaries None streamed finds chosen options at marks = tt
-found_source old new page name named binaries (Some source) streamed finds chosen options at marks = λ marked none running.
-    let is : streamed.marked ≡ true = ap (λ b. b || streamed.marked) (sym none) ∙ sym marks ∙ marked in (
-      (name, file source.bytes, named),
-      refl,
-      λ finding found. ap (λ b. (text_shown old.options finding name b source.bytes).marked) (sym chosen)
-          ∙ ap (λ n. (text_shown old.options finding n binaries source.bytes).marked) (sym at)
-          ∙ ap (λ o. (text_shown o finding page.name.now binaries source.bytes).marked) (sym options)
-          ∙ finds running finding found is,
-    )
-
-item_found : (item : Item) (model : Option SourceModel) (old new : FileSearch) (name : List ℕ) (named : Bool) →
-    OpensFileAs {A = Unit {0}} (Ok tt) (opening_of item) model → FindsInSource old new name named model →
-    FindsAmong old new (λ one. one ≡ (name, item, named))
-item_found (folder names unnamed) model old new name named opens finds = absurd opens
-item_found (file bytes) model old new name named opens finds = subst (λ m. FindsInSource old new name named m) opens finds
-item_found (cut bytes) model old new name named opens finds = λ marked none running.
-    let h = (subst (λ m. FindsInSource old new name named m) opens finds) marked none running in (
-      (name, cut bytes, named),
-      refl,
-      λ finding found. ap (λ o. (shown_of old.options old.binary finding o).marked) (sym h.1) ∙ h.2 finding found,
-    )
-item_found other model old new name named opens finds = absurd opens
-item_found (bad fault) model old new name named opens finds = absurd opens
-
-pub path_found : (snapshot : Option Snapshot) (opened : Option SourceModel) (old new : FileSearch) (name : List ℕ) (named : Bool)
-    (path : List ℕ) → OpensFile {A = Unit {0}} snapshot path (Ok tt) opened → FindsInSource old new name named (open_model snapshot opened) →
-    InTree snapshot (λ items. FindsAmong old new (λ one. one ≡ (name, items path, named)))
-path_found None opened old new name named path opens finds = tt
-path_found (Some tree) opened old new name named path opens finds = item_found (item_at tree path) opened old new name named opens finds
 
 -- ---- one of the first items of a scope
 

@@ -10,7 +10,6 @@ mod ListedLemmas
 mod ScopeLemmas
 mod FoundLemmas
 mod VisitLemmas
-mod InputLemmas
 mod KnowledgeLemmas
 mod NotedLemmas
 mod ProjectLemmas

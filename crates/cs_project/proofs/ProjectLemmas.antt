@@ -12,15 +12,16 @@ use Rattle.cs_lines.specs.declared.binary.BinaryFiles.TheVariants.{WithoutMatch,
 use Rattle.cs_lines.specs.declared.form.Mode.TheVariants.{Names}
 use Rattle.cs_lines.specs.declared.form.ShowOptions.{ShowOptions}
 use Rattle.cs_project.specs.Projects.{FindsInProject, ListsProject, SearchesProject}
-use Rattle.cs_project.specs.Scopes.{AreFirstItemsOf, AreItemsOf, ForItems, no_bytes}
-use Rattle.cs_project.specs.Searched.{BeginsNames, BeginsMarked, NamedItem, names_printed, are_marked, binary_as, is_done, item_groups, shown_of}
-use Rattle.cs_project.specs.Sources.{InInput, IsStatusOf}
-use Rattle.cs_project.specs.Visits.{ListsItems, SearchesItems, VisitsSome}
+use Rattle.cs_project.specs.Scopes.{AreFirstItemsOf, AreItemsOf, ForItems, InInput, no_bytes}
+use Rattle.cs_project.specs.Searched.{BeginsNames, NamedItem, names_printed, are_marked, binary_as, item_groups, shown_of}
+use Rattle.cs_project.specs.Visits.{BeginsItems, IsStatusOf, ListsItems, SearchesItems, VisitsSome, is_done}
 use Rattle.cs_project.specs.declared.file_search.FileSearch.{FileSearch}
 use Rattle.cs_project.specs.declared.listing.NameListing.{NameListing}
 use Rattle.cs_project.specs.declared.scope.Scope.{Scope}
 use Rattle.cs_project.proofs.FoundLemmas.{item_of_first}
 use Rattle.cs_project.proofs.ListedLemmas.{BeginsListing}
+use Rattle.cs_project.proofs.ScopeLemmas.{of_nothing}
+use Rattle.cs_project.proofs.TextLemmas.{shows_all}
 use Rattle.cs_project.proofs.VisitorLemmas.{in_same}
 
 -- what follows for the value of a success
@@ -30,7 +31,7 @@ if_ok (Err fault) f p = tt
 
 -- what a search of a scope says
 abbrev pub SearchesScope : {A E : Type 0} → TreeItems → Item → Scope → FileSearch → FileSearch → List ℕ → List ℕ → Result A E → Type 0
-SearchesScope items input scope old new given later result = VisitsSome BeginsMarked SearchesItems is_done (AreFirstItemsOf items input scope)
+SearchesScope items input scope old new given later result = VisitsSome BeginsItems SearchesItems is_done (AreFirstItemsOf items input scope)
     (λ named. new.reports.wrong ≡ false → AreItemsOf items input scope named) old new given later result
 
 pub project_searched : {A : Type 0} (E : Type 0) (snapshot : Option Snapshot) (input : Item) (scope : Scope) (old new : FileSearch) (given later : List ℕ)
@@ -43,9 +44,18 @@ project_searched E (Some tree) input scope old new given later answer slow has s
       has.0,
       (has.3).1 (ap (λ q. q && new.marked) slow) says.0,
       λ finding found.
-          let shown = ((has.3).0).0 says.0 says.1 finding found in
+          let shown = shows_all old new has.0 given later says.0 says.1 ((has.3).0).0 finding found in
           (shown.0, says.2 ∙ ap (status_by false) shown.1),
     )
+
+-- what was printed begins what is printed for the first items, also after an error
+pub search_begun : {A E : Type 0} (snapshot : Option Snapshot) (input : Item) (scope : Scope) (old new : FileSearch) (given later : List ℕ)
+    (result : Result A E) → InTree snapshot (λ items. SearchesScope items input scope old new given later result) →
+    InTree snapshot (λ items. ForItems (AreFirstItemsOf items input scope) (λ named. BeginsItems old new named given later))
+search_begun snapshot input scope old new given later result has = in_same snapshot snapshot
+    (λ items. SearchesScope items input scope old new given later result)
+    (λ items. ForItems (AreFirstItemsOf items input scope) (λ named. BeginsItems old new named given later)) refl
+    (λ items some. (some.0, some.1, some.2)) has
 
 -- ---- a search for names alone
 
@@ -133,7 +143,7 @@ found_none E (Some tree) input scope options first new given later answer is end
             (has.3).1 (ap (λ m. new.quick && m) e ∙ and_false new.quick) all.0,
             λ finding found. sym (all_alike first.options finding first.binary false has.0)
                 ∙ ap (λ o. are_marked o first.binary finding false has.0) (sym is)
-                ∙ sym (((has.3).0).0 all.0 all.1 finding found).1 ∙ e,
+                ∙ sym (shows_all (begun_by first options) new has.0 given later all.0 all.1 ((has.3).0).0 finding found).1 ∙ e,
           ),
     )
 
@@ -146,11 +156,11 @@ ListsScope items input scope old new given later result = VisitsSome BeginsListi
 
 module _ (snapshot : Option Snapshot) (scope : Scope) (old new : NameListing) (given later : List ℕ) where
   -- of an input that has no bytes
-  pub of_nothing : {A E : Type 0} (Known : Type 0) (model : Option SourceModel) (result : Result A E) → model ≡ Some (source_model [] false) →
+  pub scope_listed : {A E : Type 0} (Known : Type 0) (model : Option SourceModel) (result : Result A E) → model ≡ Some (source_model [] false) →
       Known → InInput model (λ input. Known → InTree snapshot (λ items. ListsScope items input scope old new given later result)) →
       InTree snapshot (λ items. ListsScope items no_bytes scope old new given later result)
-  of_nothing Known model result is known has =
-      (subst (λ m. InInput m (λ input. Known → InTree snapshot (λ items. ListsScope items input scope old new given later result))) is has) known
+  scope_listed Known model result is known has =
+      of_nothing (λ input. Known → InTree snapshot (λ items. ListsScope items input scope old new given later result)) model is has known
 
   pub project_begun : {A E : Type 0} (result : Result A E) →
       InTree snapshot (λ items. ListsScope items no_bytes scope old new given later result) →

@@ -9,13 +9,12 @@ use Rattle.std.proofs.lemmas.List.{get_or_default}
 use Rattle.cs_tree.proofs.NameLemmas.{mapped_more}
 use Rattle.cs_tree.specs.PathParts.{texts}
 use Rattle.cs_tree.specs.Snapshot.{Item, Snapshot, item_at, folder, file, cut, other, bad}
-use Rattle.cs_tree.specs.StreamModels.{SourceModel}
+use Rattle.cs_tree.specs.StreamModels.{SourceModel, source_model}
 use Rattle.cs_listing.specs.Choices.{Settings}
 use Rattle.cs_listing.specs.FolderReads.{InTree}
 use Rattle.cs_listing.specs.Listing.{TreeItems}
-use Rattle.cs_project.specs.Scopes.{AreAllNamed, AreAllThere, AreAt, AreAtPath, AreFilesBelow, AreFirstAt, AreFirstAtPath, AreFirstBelow, AreFirstIf, AreFirstNamed, AreFirstOfAll, AreNamed, AreNamedIf, AreThere, AreThereAt, AreThereIf, ForPath, is_entered, is_input, is_there, leads_to_folder, left_by, left_if, path_in}
+use Rattle.cs_project.specs.Scopes.{AreAllNamed, AreAllThere, AreAt, AreAtPath, AreFilesBelow, AreFirstAt, AreFirstAtPath, AreFirstBelow, AreFirstIf, AreFirstNamed, AreFirstOfAll, AreNamed, AreNamedIf, AreThere, AreThereAt, AreThereIf, ForPath, InInput, is_entered, is_input, is_there, leads_to_folder, left_by, left_if, no_bytes, path_in, unread}
 use Rattle.cs_project.specs.Searched.{NamedItem}
-use Rattle.cs_project.specs.Sources.{unread}
 use Rattle.cs_project.specs.Visits.{AreAnswered, VisitsOne, VisitsSome}
 use Rattle.cs_project.specs.Walked.{IsPathOf, IsWordPath}
 use Rattle.cs_project.specs.declared.places.PathKind.TheVariants as kind
@@ -38,6 +37,10 @@ if_input (Some item) f has = f item has
 pub any_input : {Q : Item → Type 0} (input : Option Item) → ((item : Item) → Q item) → IfSome input Q
 any_input None f = tt
 any_input (Some item) f = f item
+
+-- an input that has no bytes
+pub of_nothing : (P : Item → Type 0) (model : Option SourceModel) → model ≡ Some (source_model [] false) → InInput model P → P no_bytes
+of_nothing P model is has = subst (λ m. InInput m P) is has
 
 -- one more word that may read it
 pub input_step : (P Q : Item → Type 0) (model now : Option SourceModel) (is_read : Bool) → (is_read ≡ false → now ≡ model) →

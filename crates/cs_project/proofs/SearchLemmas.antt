@@ -1,11 +1,13 @@
 -- Two states of a search for the same.
-use Rattle.std.proofs.Common.{◌≡◌, ℕ, Bool, List, [], Option, refl, sym, subst, ◌∙◌}
+use Rattle.std.proofs.Common.{◌≡◌, ℕ, Bool, List, [], Option, refl, sym, ap, subst, ◌∙◌}
 use Rattle.std.specs.Prelude.{IfSome, MatchOption}
 use Rattle.cs_syntax.specs.Matching.{Tree, HasMatch}
 use Rattle.cs_lines.specs.Findings.{AreSpansIn, Finding, HasWord, Matches, IsFoundBy, KeepsSearch, found_tree}
 use Rattle.cs_lines.specs.Forms.{Span}
+use Rattle.cs_lines.specs.Printing.{needs_spans}
+use Rattle.cs_lines.specs.declared.form.ShowOptions.{ShowOptions}
 use Rattle.cs_lines.specs.declared.search.LineSearch.{LineSearch}
-use Rattle.cs_project.specs.Searched.{KeepsForm}
+use Rattle.cs_project.specs.Visits.{KeepsForm}
 use Rattle.cs_project.specs.declared.file_search.FileSearch.{FileSearch}
 
 -- the same is searched for
@@ -46,7 +48,8 @@ form_again a b c p q = (
   ((q.2).0 ∙ (p.2).0, (q.2).1 ∙ (p.2).1, (q.2).2 ∙ (p.2).2, λ none. (p.2).3 ((q.2).3 none)),
   λ right. p.3 (q.3 right),
   q.4 ∙ p.4,
+  λ plain. q.5 (ap (λ (o : ShowOptions). needs_spans o.form) p.0 ∙ plain) ∙ p.5 plain,
 )
 
 pub form_itself : (a : FileSearch) → KeepsForm a a
-form_itself a = (refl, refl, (refl, refl, refl, λ none. none), λ right. right, refl)
+form_itself a = (refl, refl, (refl, refl, refl, λ none. none), λ right. right, refl, λ plain. refl)

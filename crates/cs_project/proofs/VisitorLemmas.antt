@@ -16,6 +16,11 @@ pub on_ok : {A E P Q : Type 0} (result : Result A E) → (P → Q) → OnOk resu
 on_ok (Ok answer) f p = f p
 on_ok (Err fault) f p = tt
 
+-- what holds in any case
+pub on_any : {A E P : Type 0} (result : Result A E) → P → OnOk result P
+on_any (Ok answer) p = p
+on_any (Err fault) p = tt
+
 -- at an error
 pub on_err : {A E : Type 0} (P : Type 0) (result : Result A E) → IsErr result → OnOk result P
 on_err P (Ok answer) fails = absurd (false≢true fails)

@@ -6,10 +6,9 @@ pub mod Noted
 pub mod Projects
 pub mod Scopes
 pub mod Searched
-pub mod Sources
+pub mod Visits
 -- Definitions that only private contracts cite.
 pub mod Reports
-pub mod Visits
 pub mod Walked
 -- What the contracts cite, passed on.
 pub mod Cited

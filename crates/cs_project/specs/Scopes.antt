@@ -1,5 +1,5 @@
 -- Which items a search of a project has, one after another, and the names that they are printed with.
-use Rattle.std.specs.Prelude.{ℕ, ◌≡◌, ◌⊎◌, Bool, true, false, not, ◌&&◌, ◌||◌, if◌then◌else◌, List, [], ◌∷◌, ◌++◌, map, length, None, is_none, codes, bytes_eq}
+use Rattle.std.specs.Prelude.{ℕ, ◌≡◌, ◌⊎◌, Bool, true, false, not, ◌&&◌, ◌||◌, if◌then◌else◌, List, [], ◌∷◌, ◌++◌, map, length, Option, Some, None, IfSome, is_none, codes, bytes_eq}
 use Rattle.std.specs.Path.{slash}
 use Rattle.cs_tree.specs.Snapshot.{Item, folder, file, cut, other, bad}
 use Rattle.cs_tree.specs.StreamModels.{SourceModel, ends, fails}
@@ -52,6 +52,16 @@ no_bytes = file []
 -- It is read once: after that it has no bytes.
 abbrev pub left_if : Bool → Item → Item
 left_if is_read input = if is_read then no_bytes else input
+
+-- what is left of it to a word, if it is modelled
+abbrev pub unread : Bool → Option SourceModel → Option Item
+unread true model = Some no_bytes
+unread false (Some source) = Some (source_item source)
+unread false None = None
+
+-- This holds of the input, if it is modelled.
+abbrev pub InInput : Option SourceModel → (Item → Type 0) → Type 0
+InInput model P = IfSome (unread false model) P
 
 -- what words leave of it, one after another
 abbrev pub left_by : List (List ℕ) → Item → Item

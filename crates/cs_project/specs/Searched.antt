@@ -1,8 +1,8 @@
 -- What a search prints for items one after another.
-use Rattle.std.specs.Prelude.{ℕ, ◌≡◌, Bool, true, false, ◌&&◌, ◌||◌, List, [], ◌∷◌, ◌++◌}
+use Rattle.std.specs.Prelude.{ℕ, ◌≡◌, ◌⊎◌, ◌^◌, Bool, true, false, ◌||◌, nat_lt, List, [], ◌∷◌, ◌++◌, length}
 use Rattle.std.specs.List.{flat_map}
 use Rattle.cs_tree.specs.Snapshot.{Item, file, cut}
-use Rattle.cs_lines.specs.Findings.{Finding, IsFoundBy, KeepsSearch, has_stopped}
+use Rattle.cs_lines.specs.Findings.{Finding, IsFoundBy}
 use Rattle.cs_tree.specs.SinkOutputs.{Begins}
 use Rattle.cs_lines.specs.Project.{ItemShown, nothing_shown, text_shown}
 use Rattle.cs_lines.specs.Shown.{between, following}
@@ -48,45 +48,31 @@ abbrev pub IsMarked : FileSearch → NamedItem → Type 0
 IsMarked search one = (finding : Finding) → IsFoundBy finding search.search →
     (shown_of search.options search.binary finding one).marked ≡ true
 
--- The items were searched: what is printed for them was printed.
-abbrev pub PrintsItems : FileSearch → FileSearch → List NamedItem → List ℕ → List ℕ → Type 0
-PrintsItems old new items given later = (finding : Finding) → IsFoundBy finding old.search →
-    (later ≡ given ++ items_printed old.options old.binary finding old.marked items)
-    × (new.marked ≡ are_marked old.options old.binary finding old.marked items)
+-- whether an item may not be read to its end: its reads fail, or it has more than 2^62 bytes
+abbrev pub is_cut : Item → Bool
+is_cut (file text) = nat_lt (2 ^ 62) (length text)
+is_cut (cut text) = true
+is_cut _ = false
 
--- The same, unless an error was reported, or the matches of a line were not all found.
-abbrev pub ShowsItems : FileSearch → FileSearch → List NamedItem → List ℕ → List ℕ → Type 0
-ShowsItems old new items given later =
-    new.reports.wrong ≡ false → has_stopped new.search ≡ false → PrintsItems old new items given later
+module _ (options : ShowOptions) (binary : Bool) (finding : Finding) (cuts : Item → Bool) where
+  -- What is printed for an item was printed, or a beginning of it, if the item is one that may be cut. A line of an earlier item is
+  -- marked, or none, and `next` says this after the item.
+  abbrev pub PrintsOne : NamedItem → Bool → Bool → List ℕ → List ℕ → Type 0
+  PrintsOne item marked next given later =
+      let shown = shown_of options binary finding item in
+      let all = given ++ following (between options) marked shown.groups in
+      let found = marked || shown.marked in
+      ((later ≡ all) × (next ≡ found)) ⊎ ((cuts item.1 ≡ true) × Begins later all × ((next ≡ marked) ⊎ (next ≡ found)))
 
--- What was printed begins what is printed for the items, also after an error.
-abbrev pub BeginsItems : FileSearch → FileSearch → List NamedItem → List ℕ → List ℕ → Type 0
-BeginsItems old new items given later = has_stopped new.search ≡ false → (finding : Finding) → IsFoundBy finding old.search →
-    Begins later (given ++ items_printed old.options old.binary finding old.marked items)
+  -- the same of items, one after another
+  abbrev pub PrintsEach : List NamedItem → Bool → Bool → List ℕ → List ℕ → Type 0
+  PrintsEach [] marked next given later = (next ≡ marked) × (later ≡ given)
+  PrintsEach (item ∷ items) marked next given later = (middle : List ℕ) × (found : Bool)
+      × PrintsOne item marked found given middle × PrintsEach items found next middle later
 
--- Item after item a beginning of what is printed for it was printed, after a gap or not.
-module _ (options : ShowOptions) (binary : Bool) (finding : Finding) where
-  abbrev pub BeginsEach : List NamedItem → List ℕ → List ℕ → Type 0
-  BeginsEach [] given later = later ≡ given
-  BeginsEach (item ∷ items) given later = (marked : Bool) × (middle : List ℕ)
-      × Begins middle (given ++ following (between options) marked (shown_of options binary finding item).groups)
-      × BeginsEach items middle later
-
--- Unless the matches of a line were not all found: until an error was reported, what was printed begins what is printed for the
--- items, and in any case of each item.
-abbrev pub BeginsMarked : FileSearch → FileSearch → List NamedItem → List ℕ → List ℕ → Type 0
-BeginsMarked old new items given later = (new.reports.wrong ≡ false → BeginsItems old new items given later)
-    × (has_stopped new.search ≡ false → (finding : Finding) → IsFoundBy finding old.search →
-    BeginsEach old.options old.binary finding items given later)
-
--- The search ends at the first marked line, and has come to one.
-abbrev pub is_done : FileSearch → Bool
-is_done search = search.quick && search.marked
-
--- The search is for the same, in the same form, and an error that was reported stays reported.
-abbrev pub KeepsForm : FileSearch → FileSearch → Type 0
-KeepsForm old new = (new.options ≡ old.options) × (new.binary ≡ old.binary) × KeepsSearch old.search new.search
-    × (new.reports.wrong ≡ false → old.reports.wrong ≡ false) × (new.quick ≡ old.quick)
+  -- What was printed begins this.
+  abbrev pub BeginsEach : List NamedItem → Bool → List ℕ → List ℕ → Type 0
+  BeginsEach items marked given later = (all : List ℕ) × (next : Bool) × PrintsEach items marked next given all × Begins later all
 
 -- the names of items, each with what ends it
 abbrev pub names_printed : List ℕ → List NamedItem → List ℕ

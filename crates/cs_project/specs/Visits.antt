@@ -1,12 +1,12 @@
--- What a walk promises of the items that it visits, whatever is done with them.
-use Rattle.std.specs.Prelude.{ℕ, ◌≡◌, ◌⊎◌, Bool, false, List, [], ◌∷◌, ◌++◌, Option, IfSome, OnOk, Result, string_bytes}
-use Rattle.cs_tree.specs.Snapshot.{Snapshot, item_at}
-use Rattle.cs_lines.specs.Findings.{Finding, IsFoundBy}
+-- What a walk promises of the items that it visits, whatever is done with them, and what a search promises of them.
+use Rattle.std.specs.Prelude.{ℕ, ◌≡◌, ◌≢◌, ◌⊎◌, Bool, true, false, ◌&&◌, List, [], ◌∷◌, ◌++◌, Option, IfSome, OnOk, Result, string_bytes}
+use Rattle.cs_tree.specs.Snapshot.{Item, Snapshot, item_at}
+use Rattle.cs_lines.specs.Findings.{Finding, IsFoundBy, KeepsSearch, StopsBySpans, has_stopped}
+use Rattle.cs_lines.specs.Project.{status_by}
 use Rattle.cs_listing.specs.Listing.{TreeItems}
 use Rattle.cs_listing.specs.Stamps.{Stamps}
 use Rattle.cs_project.specs.Knowledge.{SearchedTree}
-use Rattle.cs_project.specs.Searched.{NamedItem, ShowsItems, names_printed}
-use Rattle.cs_project.specs.Sources.{FindsAmong}
+use Rattle.cs_project.specs.Searched.{BeginsEach, IsMarked, NamedItem, PrintsEach, is_cut, names_printed}
 use Rattle.cs_project.specs.declared.file_search.FileSearch.{FileSearch}
 use Rattle.cs_project.specs.declared.listing.NameListing.{NameListing}
 use Rattle.cs_project.specs.declared.walks.NamedPath.{NamedPath}
@@ -56,6 +56,36 @@ pub record Follows {V : Type 0} (Asks : V → TreeItems → Stamps → SearchedT
 
 -- ---- a search
 
+-- whether the search may have cut an item: then an error was reported
+abbrev pub may_cut : FileSearch → Item → Bool
+may_cut search item = search.reports.wrong && is_cut item
+
+-- The items were searched, unless the matches of a line were not all found.
+abbrev pub ShowsItems : FileSearch → FileSearch → List NamedItem → List ℕ → List ℕ → Type 0
+ShowsItems old new items given later = has_stopped new.search ≡ false → (finding : Finding) → IsFoundBy finding old.search →
+    PrintsEach old.options old.binary finding (may_cut new) items old.marked new.marked given later
+
+-- What was printed begins what is printed for the items, also after an error, unless the matches of a line were not all found.
+abbrev pub BeginsItems : FileSearch → FileSearch → List NamedItem → List ℕ → List ℕ → Type 0
+BeginsItems old new items given later = has_stopped new.search ≡ false → (finding : Finding) → IsFoundBy finding old.search →
+    BeginsEach old.options old.binary finding (may_cut new) items old.marked given later
+
+-- The search ends at the first marked line, and has come to one.
+abbrev pub is_done : FileSearch → Bool
+is_done search = search.quick && search.marked
+
+-- The search is for the same, in the same form, and an error that was reported stays reported. All matches of each line are found
+-- if the form does not show them.
+abbrev pub KeepsForm : FileSearch → FileSearch → Type 0
+KeepsForm old new = (new.options ≡ old.options) × (new.binary ≡ old.binary) × KeepsSearch old.search new.search
+    × (new.reports.wrong ≡ false → old.reports.wrong ≡ false) × (new.quick ≡ old.quick)
+    × StopsBySpans old.options.form old.search new.search
+
+-- If a line is marked, and none was before, it is one of such an item, even if an error was reported.
+abbrev pub FindsAmong : FileSearch → FileSearch → (NamedItem → Type 0) → Type 0
+FindsAmong old new IsOne = new.marked ≡ true → old.marked ≡ false → has_stopped new.search ≡ false →
+    (one : NamedItem) × IsOne one × IsMarked old one
+
 abbrev pub IsAmong : NamedItem → List NamedItem → Type 0
 IsAmong one [] = ⊥
 IsAmong one (item ∷ items) = (one ≡ item) ⊎ IsAmong one items
@@ -63,6 +93,11 @@ IsAmong one (item ∷ items) = (one ≡ item) ⊎ IsAmong one items
 -- What is printed for the items was printed, and a marked line is one of theirs.
 abbrev pub SearchesItems : FileSearch → FileSearch → List NamedItem → List ℕ → List ℕ → Type 0
 SearchesItems old new items given later = ShowsItems old new items given later × FindsAmong old new (λ one. IsAmong one items)
+
+-- The status is 2, or there was no error, all matches were found, and it says whether a line is marked.
+abbrev pub IsStatusOf : FileSearch → ℕ → Type 0
+IsStatusOf search status = status ≢ 2 → (search.reports.wrong ≡ false) × (has_stopped search.search ≡ false)
+    × (status ≡ status_by false search.marked)
 
 -- a search asks what is known for each of its findings
 abbrev pub AsksFor : FileSearch → TreeItems → Stamps → SearchedTree → Type 0

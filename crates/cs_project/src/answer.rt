@@ -1,6 +1,6 @@
 // What the arguments of `cs` ask for is done.
-ghost use Rattle.std.specs.Prelude.{◌≡◌, ◌≢◌, ◌⊎◌, true, [], map, slice_index_or, string_bytes, IfOk};
-ghost use Rattle.cs_project.specs.Cited.{Keeps, given, texts, InTree, chosen_in, AnswersRequest, BeginsList, BeginsProject, BeginsTask, DoesProject, HasBase, InInput, IsProgramFor, IsScopeOf, IsSearchFor, ListsFor, SearchesFor, HoldsFor, asked_as, NotesSeen};
+ghost use Rattle.std.specs.Prelude.{◌≡◌, ◌≢◌, ◌⊎◌, true, false, [], map, slice_index_or, string_bytes, IfOk};
+ghost use Rattle.cs_project.specs.Cited.{Keeps, Prints, given, has_stopped, texts, InTree, chosen_in, AnswersRequest, BeginsFor, BeginsList, BeginsProject, BeginsTask, DoesProject, HasBase, InInput, IsProgramFor, IsScopeOf, IsSearchFor, ListsFor, SearchesFor, HoldsFor, asked_as, NotesSeen, types_printed};
 ghost use Rattle.cs_project.specs.Calls.{name_end as name_end', rules_of_user as rules_of_user', words_at as words_at'};
 ghost use Rattle.cs_listing.specs.Models.{rules_in};
 
@@ -8,7 +8,6 @@ use crate::call::ProjectCall;
 use crate::fault::FreshFault;
 use crate::file_search::FileSearch;
 use crate::knowledge::{AskedSearch, Knowledge, NoKnowledge};
-use crate::printing::{check, print};
 use crate::project::{find_in_project, for_names, list_project};
 use crate::reports::print_unread;
 use crate::scope::Scope;
@@ -50,8 +49,9 @@ pub fn run_project<T: Look, R: Source, K: Knowledge, O: Sink, E: Sink>(
     ensures does { IfOk result (λ status. InInput (R.model input.old) (λ input. InTree (T.snapshot tree.old)
         (λ items. DoesProject (HoldsFor (K.Holds known.old) T.stamps (T.snapshot tree.old)) items input
         call.now (given out.old) (given out.new) status))) }
-    ensures begins { InTree (T.snapshot tree.old)
-        (λ items. BeginsProject items call.now (given out.old) (given out.new)) }
+    ensures begins { InTree (T.snapshot tree.old) (λ items. BeginsProject
+        (HoldsFor (K.Holds known.old) T.stamps (T.snapshot tree.old)) items (R.model input.old)
+        call.now (given out.old) (given out.new)) }
     ensures keeps { T.snapshot tree.new ≡ T.snapshot tree.old }
     ensures handed { Keeps O.model O.failed out.old out.new }
     ensures notes { NotesSeen T.stamps (T.snapshot tree.old) (K.noted known.old) (K.noted known.new) }
@@ -143,10 +143,10 @@ fn refuse<E: Sink>(
 #[tactic(auto, using(crate::proofs::PrintLemmas::printing))]
 fn print_answer<O: Sink>(text: &[u8], out: &mut SinkOutput<'_, O>) -> Result<u8, AllocError>
     ensures status { IfOk result (λ status. status ≡ 0) }
-    ensures handed { Keeps O.model O.failed out.old out.new }
+    ensures printed { Prints O.model O.failed out.old out.new text.now }
 {
-    print(text, out);
-    check(out)?;
+    out.print(text);
+    out.check()?;
     Ok(0)
 }
 
@@ -154,16 +154,26 @@ fn print_answer<O: Sink>(text: &[u8], out: &mut SinkOutput<'_, O>) -> Result<u8,
 #[tactic(auto, using(crate::proofs::PrintLemmas::printing))]
 fn print_types<O: Sink>(out: &mut SinkOutput<'_, O>) -> Result<u8, AllocError>
     ensures status { IfOk result (λ status. status ≡ 0) }
-    ensures handed { Keeps O.model O.failed out.old out.new }
+    ensures printed { Prints O.model O.failed out.old out.new (types_printed
+        (map (λ row. (row.0.now, row.1.now)) TYPES)) }
 {
-    'types: for entry in &TYPES {
-        print(entry.0.as_bytes(), out);
-        print(b": ", out);
-        print(entry.1.as_bytes(), out);
-        print(b"\n", out);
-    }
-    check(out)?;
+    print_rows(&TYPES, out);
+    out.check()?;
     Ok(0)
+}
+
+/// Prints types with their globs.
+#[tactic(auto, using(crate::proofs::PrintLemmas::printing))]
+fn print_rows<O: Sink>(types: &[(&str, &str)], out: &mut SinkOutput<'_, O>)
+    ensures { Prints O.model O.failed out.old out.new (types_printed
+        (map (λ row. (row.0.now, row.1.now)) types.now)) }
+{
+    'types: for row in types {
+        out.print(row.0.as_bytes());
+        out.print(b": ");
+        out.print(row.1.as_bytes());
+        out.print(b"\n");
+    }
 }
 
 /// The word with this index.
@@ -267,6 +277,7 @@ fn files_for<'p, T: Look>(
     requires program { IsProgramFor request.now program.now }
     ensures files { IfOk result (λ search. InTree (T.snapshot tree.old)
         (λ items. IsSearchFor items call.now request.now scope.now search)) }
+    ensures begun { IfOk result (λ search. has_stopped search.search ≡ false) }
     ensures keeps { T.snapshot tree.new ≡ T.snapshot tree.old }
 {
     let place = Surroundings {
@@ -306,8 +317,9 @@ impl ProjectCall<'_> {
             InTree (T.snapshot tree.old) (λ items.
             AnswersRequest (HoldsFor (K.Holds known.old) T.stamps (T.snapshot tree.old)) items input
             self.now request.now (given out.old) (given out.new) status))) }
-        ensures begins { InTree (T.snapshot tree.old) (λ items. BeginsTask items self.now request.now
-            request.now.switches.task (given out.old) (given out.new)) }
+        ensures begins { InTree (T.snapshot tree.old) (λ items. BeginsTask
+            (HoldsFor (K.Holds known.old) T.stamps (T.snapshot tree.old)) items (R.model input.old)
+            self.now request.now request.now.switches.task (given out.old) (given out.new)) }
         ensures keeps { T.snapshot tree.new ≡ T.snapshot tree.old }
         ensures handed { Keeps O.model O.failed out.old out.new }
         ensures notes { NotesSeen T.stamps (T.snapshot tree.old) (K.noted known.old) (K.noted known.new) }
@@ -343,7 +355,9 @@ impl ProjectCall<'_> {
             InTree (T.snapshot tree.old) (λ items.
             SearchesFor (HoldsFor (K.Holds known.old) T.stamps (T.snapshot tree.old)) items input self.now
             request.now request.now.switches.silent (given out.old) (given out.new) status))) }
-        ensures begins { request.now.switches.silent ≡ true → given out.new ≡ given out.old }
+        ensures begins { InTree (T.snapshot tree.old) (λ items. BeginsFor
+            (HoldsFor (K.Holds known.old) T.stamps (T.snapshot tree.old)) items (R.model input.old)
+            self.now request.now request.now.switches.silent (given out.old) (given out.new)) }
         ensures keeps { T.snapshot tree.new ≡ T.snapshot tree.old }
         ensures handed { Keeps O.model O.failed out.old out.new }
         ensures notes { NotesSeen T.stamps (T.snapshot tree.old) (K.noted known.old) (K.noted known.new) }
@@ -355,7 +369,7 @@ impl ProjectCall<'_> {
         let words = words_at(self.alloc, self.words, &request.paths)?;
         let scope = scope_of(self, request, &words);
         let program = Program::compile(self.alloc, pattern)?;
-        let files = files_for(self, request, &scope, &program, tree)?;
+        let mut files = files_for(self, request, &scope, &program, tree)?;
         known.begin(&AskedSearch {
             options: asked_options(request.switches.silent, &files),
             binary: files.binary,
@@ -366,6 +380,6 @@ impl ProjectCall<'_> {
         if request.switches.silent {
             return find_in_project(&scope, files, tree, input, known, err);
         }
-        scope.search_project(files, tree, input, known, out, err)
+        scope.search_project(&mut files, tree, input, known, out, err)
     }
 }

@@ -1,10 +1,9 @@
 // The search of one file after another.
 ghost use Rattle.std.specs.Prelude.{◌≡◌, ◌≤◌, ◌∷◌, ◌||◌, [], true, false, string_bytes, IfOk, OnOk};
-ghost use Rattle.cs_project.specs.Cited.{has_stopped, Keeps, given, InTree, InStamps, HoldsAsBefore, HoldsFor, KeepsForm, ShowsItems, BeginsItems, BeginsMarked, binary_as, is_done, FindsAmong, FindsInSource, IsStatusOf, ShowsSource, BeginsSource, NotesSeen, AsksFor, SearchesItems, met_item};
+ghost use Rattle.cs_project.specs.Cited.{has_stopped, Keeps, given, InInput, InTree, InStamps, HoldsAsBefore, HoldsFor, KeepsForm, ShowsItems, BeginsItems, binary_as, is_done, FindsAmong, IsStatusOf, NotesSeen, AsksFor, SearchesItems, met_item};
 
 use crate::fault::FreshFault;
 use crate::knowledge::Knowledge;
-use crate::printing::check;
 use crate::reports::{Reports, status_of};
 use crate::visitor::Visitor;
 use crate::walks::NamedPath;
@@ -69,7 +68,7 @@ impl<'p> FileSearch<'p> {
 
     /// Searches the text that is read from a source, and prints what is to be printed for it.
     /// `named` says whether a word names the file.
-    #[tactic(auto, using(crate::proofs::PrintLemmas::printing, crate::proofs::FileLemmas::source_shown, crate::proofs::FileLemmas::source_wrong, crate::proofs::FileLemmas::source_begun))]
+    #[tactic(auto, using(crate::proofs::PrintLemmas::printing))]
     pub(crate) fn show_source<R: Source, O: Sink, E: Sink>(
         &mut self,
         name: &str,
@@ -78,12 +77,12 @@ impl<'p> FileSearch<'p> {
         out: &mut SinkOutput<'_, O>,
         err: &mut E,
     ) -> Result<(), FreshFault>
-        ensures shown { OnOk result (ShowsSource self.old self.new name.now named (R.model input.old)
-            (given out.old) (given out.new)) }
-        ensures begins { BeginsSource self.old self.new name.now named (R.model input.old)
-            (given out.old) (given out.new) }
-        ensures found { OnOk result (FindsInSource self.old self.new name.now named
-            (R.model input.old)) }
+        ensures shown { OnOk result (InInput (R.model input.old) (λ item. ShowsItems self.old self.new
+            ((name.now, item, named) ∷ []) (given out.old) (given out.new))) }
+        ensures begins { InInput (R.model input.old) (λ item. BeginsItems self.old self.new
+            ((name.now, item, named) ∷ []) (given out.old) (given out.new)) }
+        ensures found { OnOk result (InInput (R.model input.old) (λ item. FindsAmong self.old self.new
+            (λ one. one ≡ (name.now, item, named)))) }
         ensures same { KeepsForm self.old self.new }
         ensures keeps { R.Keeps input.old input.new }
         ensures handed { Keeps O.model O.failed out.old out.new }
@@ -102,7 +101,7 @@ impl<'p> FileSearch<'p> {
             &mut self.search,
             out,
         )?;
-        check(out)?;
+        out.check()?;
         self.marked = either(self.marked, streamed.marked);
         match streamed.ended {
             Ended::Whole => Ok(()),
@@ -113,7 +112,7 @@ impl<'p> FileSearch<'p> {
 
     /// Searches the file at a path, and prints what is to be printed for it. For a file that is
     /// gone, and for the one that the output goes to, nothing is printed.
-    #[tactic(auto, using(crate::proofs::PrintLemmas::printing, crate::proofs::FileLemmas::path_opened, crate::proofs::FileLemmas::path_refused, crate::proofs::FileLemmas::path_unbegun))]
+    #[tactic(auto, using(crate::proofs::PrintLemmas::printing, crate::proofs::FileLemmas::path_refused, crate::proofs::FileLemmas::path_unbegun))]
     pub fn show_file<T: Tree, O: Sink, E: Sink>(
         &mut self,
         tree: &mut T,
@@ -174,7 +173,7 @@ impl<'p> FileSearch<'p> {
 
     /// The same for a file that a word names. One that is gone is reported, and one that is binary
     /// is searched.
-    #[tactic(auto, using(crate::proofs::PrintLemmas::printing, crate::proofs::FileLemmas::path_opened, crate::proofs::FileLemmas::path_refused, crate::proofs::FileLemmas::path_unbegun, crate::proofs::FileLemmas::path_reported))]
+    #[tactic(auto, using(crate::proofs::PrintLemmas::printing, crate::proofs::FileLemmas::path_missing, crate::proofs::FileLemmas::path_refused, crate::proofs::FileLemmas::path_unbegun))]
     pub(crate) fn show_named<T: Tree, O: Sink, E: Sink>(
         &mut self,
         tree: &mut T,
@@ -204,13 +203,13 @@ impl<'p> FileSearch<'p> {
     }
 
     /// The exit status, after a line of an error if not all matches of a line were found.
-    pub(crate) fn status<E: Sink>(&mut self, err: &mut E) -> Result<u8, FreshFault>
-        ensures status { IfOk result (IsStatusOf self.old) }
+    pub(crate) fn status<E: Sink>(&self, err: &mut E) -> Result<u8, FreshFault>
+        ensures status { IfOk result (IsStatusOf self.now) }
         ensures within { IfOk result (λ status. status ≤ 2) }
     {
         if self.has_stopped() {
-            self.reports
-                .print("a line", "not all of its matches were found", err)?;
+            let mut reports = self.reports;
+            reports.print("a line", "not all of its matches were found", err)?;
             return Ok(2);
         }
         Ok(status_of(self.reports.wrong, self.marked))
@@ -235,7 +234,7 @@ impl Visitor for FileSearch<'_> {
 
     ghost Visits = { SearchesItems };
 
-    ghost Begins = { BeginsMarked };
+    ghost Begins = { BeginsItems };
 
     fn visit_met<T: Look, K: Knowledge, O: Sink, E: Sink>(
         &mut self,

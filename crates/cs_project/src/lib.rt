@@ -11,10 +11,10 @@
 //! prints what is to be printed for it while it is read (`print_file` of cs_lines), before the next
 //! one is looked for, and a `NameListing` prints its name. A file of the walk that is known to
 //! print nothing (`Knowledge`) is not opened. So the first line comes when its file is met, and
-//! memory grows neither with a file nor with the number of files. What is printed is said unless an
-//! error was reported (`Reports`), or a line has used up its budget; the exit status is 2 then. Up
-//! to the error it begins what is right (`Begins` of a `Visitor`). The invariants of the loops name
-//! the items so far (`HasTaken`, `HasNamed`).
+//! memory grows neither with a file nor with the number of files. If an error was reported
+//! (`Reports`), or a line has used up its budget, the exit status is 2. After an error what was
+//! printed begins what is right (`Begins` of a `Visitor`; `specs/Visits.antt`). The invariants of
+//! the loops name the items so far (`HasTaken`, `HasNamed`).
 //!
 //! The crate is apart from cs_lines and cs_listing since it is the first one above both.
 #![tactic(auto)]
@@ -29,7 +29,6 @@ mod listing;
 mod names;
 mod paths;
 mod places;
-mod printing;
 mod project;
 mod reports;
 mod scope;

@@ -1,6 +1,6 @@
 // The search of a project, and the listing of its files.
 ghost use Rattle.std.specs.Prelude.{◌≡◌, ◌++◌, ◌≤◌, [], false, true, IfOk, OnOk};
-ghost use Rattle.cs_project.specs.Cited.{Keeps, given, texts, InTree, chosen_in, HoldsAsBefore, HoldsFor, by_names, AreAllNamed, AreFirstItemsOf, AreFirstOfAll, AreItemsOf, BeginsNames, ForItems, InInput, are_several, no_bytes, KnowsFor, VisitsSome, FindsInProject, ListsProject, SearchesProject, NotesSeen};
+ghost use Rattle.cs_project.specs.Cited.{Keeps, given, texts, InTree, chosen_in, HoldsAsBefore, HoldsFor, by_names, AreAllNamed, AreFirstItemsOf, AreFirstOfAll, AreItemsOf, BeginsItems, BeginsNames, ForItems, InInput, StopsBySpans, are_several, no_bytes, KnowsFor, VisitsSome, FindsInProject, ListsProject, SearchesProject, NotesSeen};
 
 use crate::fault::FreshFault;
 use crate::file_search::{FileSearch, either};
@@ -97,7 +97,7 @@ impl<'a> Scope<'a> {
     #[tactic(auto, using(crate::proofs::PrintLemmas::printing, crate::proofs::NotedLemmas::notes_more))]
     pub fn search_project<T: Look, R: Source, K: Knowledge, O: Sink, E: Sink>(
         &self,
-        mut search: FileSearch<'_>,
+        search: &mut FileSearch<'_>,
         tree: &mut T,
         input: &mut R,
         known: &mut K,
@@ -105,16 +105,21 @@ impl<'a> Scope<'a> {
         err: &mut E,
     ) -> Result<u8, FreshFault>
         ensures searched { IfOk result (λ status. InInput (R.model input.old) (λ input.
-            HoldsFor (K.Holds known.old) T.stamps (T.snapshot tree.old) search.entry →
-            InTree (T.snapshot tree.old) (λ items. SearchesProject items input self.now search.entry
+            HoldsFor (K.Holds known.old) T.stamps (T.snapshot tree.old) search.old →
+            InTree (T.snapshot tree.old) (λ items. SearchesProject items input self.now search.old
             (given out.old) (given out.new) status))) }
+        ensures begins { InInput (R.model input.old) (λ input.
+            HoldsFor (K.Holds known.old) T.stamps (T.snapshot tree.old) search.old →
+            InTree (T.snapshot tree.old) (λ items. ForItems (AreFirstItemsOf items input self.now)
+            (λ named. BeginsItems search.old search.new named (given out.old) (given out.new)))) }
+        ensures budget { StopsBySpans search.old.options.form search.old.search search.new.search }
         ensures status { IfOk result (λ status. status ≤ 2) }
         ensures keeps { T.snapshot tree.new ≡ T.snapshot tree.old }
         ensures handed { Keeps O.model O.failed out.old out.new }
         ensures notes { NotesSeen T.stamps (T.snapshot tree.old) (K.noted known.old) (K.noted known.new) }
     {
         search.quick = false;
-        self.visit(&mut search, tree, input, known, out, err)?;
+        self.visit(search, tree, input, known, out, err)?;
         search.status(err)
     }
 

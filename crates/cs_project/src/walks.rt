@@ -5,7 +5,6 @@ ghost use Rattle.cs_project.specs.Cited.{Begins, Keeps, given, InTree, AreStampe
 use crate::fault::FreshFault;
 use crate::knowledge::Knowledge;
 use crate::names::NameForm;
-use crate::printing::{check, print};
 use crate::visitor::Visitor;
 use cs_listing::{Found, Walk};
 use cs_tree::{Look, Sink, SinkOutput, Stamp};
@@ -110,7 +109,7 @@ pub(crate) fn print_name<O: Sink>(
     ensures begins { Begins (given out.new) (given out.old ++ (name.now ++ end.now)) }
     ensures handed { Keeps O.model O.failed out.old out.new }
 {
-    print(name.as_bytes(), out);
-    print(end, out);
-    check(out)
+    out.print(name.as_bytes());
+    out.print(end);
+    out.check()
 }

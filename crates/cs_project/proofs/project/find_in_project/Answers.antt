@@ -2,7 +2,7 @@ use Rattle.std.proofs.Common.{◌≡◌, true, false, sym, subst, ◌∙◌}
 use Rattle.std.proofs.lemmas.Bool.{false≢true}
 use Rattle.cs_lines.specs.Findings.{has_stopped}
 use Rattle.cs_project.specs.Knowledge.{HoldsFor}
-use Rattle.cs_project.specs.Sources.{unread}
+use Rattle.cs_project.specs.Scopes.{unread}
 use Rattle.cs_project.specs.declared.fault.FreshFault.{FreshFault}
 use Rattle.cs_project.proofs.ProjectLemmas.{begun_by, found_none, found_one, if_ok}
 use Rattle.cs_project.proofs.ScopeLemmas.{if_input}

@@ -2,8 +2,7 @@ use Rattle.std.proofs.Common.{◌≡◌, [], ◌∷◌, false, subst}
 use Rattle.std.specs.Prelude.{string_bytes}
 use Rattle.cs_listing.specs.FolderReads.{InTree}
 use Rattle.cs_project.specs.Knowledge.{SkipsNothingShown}
-use Rattle.cs_project.specs.Searched.{BeginsItems, ShowsItems}
-use Rattle.cs_project.specs.Sources.{FindsAmong}
+use Rattle.cs_project.specs.Visits.{BeginsItems, FindsAmong, ShowsItems}
 use Rattle.cs_project.proofs.VisitorLemmas.{on_ok}
 use Rattle.cs_project.proofs.FileLemmas.{path_unbegun}
 use Rattle.cs_project.proofs.KnowledgeLemmas.{skipped}

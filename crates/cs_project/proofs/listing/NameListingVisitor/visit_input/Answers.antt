@@ -1,5 +1,5 @@
 use Rattle.std.proofs.Common.{Result, Ok, true, refl}
-use Rattle.cs_project.specs.Sources.{unread}
+use Rattle.cs_project.specs.Scopes.{unread}
 use Rattle.cs_project.proofs.ListedLemmas.{lists_one}
 use Rattle.cs_project.proofs.ScopeLemmas.{any_input}
 use Rattle.cs_project.proofs.VisitorLemmas.{on_err}

@@ -1,7 +1,7 @@
 use Rattle.std.proofs.Common.{sym, ◌∙◌}
 use Rattle.std.proofs.lemmas.Bool.{false≢true}
 use Rattle.cs_listing.specs.Models.{chosen_in}
-use Rattle.cs_project.specs.Sources.{unread}
+use Rattle.cs_project.specs.Scopes.{unread}
 use Rattle.cs_project.proofs.ScopeLemmas.{any_input, if_input, input_visited, path_visited}
 use Rattle.cs_project.proofs.places.ScopeWord.visit.Goals as goal
 

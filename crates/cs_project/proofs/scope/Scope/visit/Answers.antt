@@ -1,8 +1,7 @@
 use Rattle.std.proofs.Common.{◌≡◌, false, [], refl, sym, subst, ◌∙◌}
 use Rattle.cs_listing.specs.FolderReads.{InTree}
 use Rattle.cs_listing.specs.Models.{chosen_in}
-use Rattle.cs_project.specs.Scopes.{AreAllNamed, AreFilesBelow, AreFirstBelow, AreFirstMeant, AreFirstOfAll, AreMeant}
-use Rattle.cs_project.specs.Sources.{unread}
+use Rattle.cs_project.specs.Scopes.{AreAllNamed, AreFilesBelow, AreFirstBelow, AreFirstMeant, AreFirstOfAll, AreMeant, unread}
 use Rattle.cs_project.specs.Visits.{VisitsSome}
 use Rattle.cs_project.proofs.ScopeLemmas.{any_input, if_input, if_none, if_some}
 use Rattle.cs_project.proofs.VisitorLemmas.{in_same, visits_as}

@@ -2,8 +2,7 @@ use denote.Ref.{Bor}
 use Rattle.std.proofs.Common.{◌≡◌, Result, Ok, ℕ, ◌<◌, false, List, [], length, arith, refl, sym, ◌∙◌}
 use Rattle.cs_tree.specs.PathParts.{texts}
 use Rattle.cs_listing.specs.Models.{chosen_in}
-use Rattle.cs_project.specs.Scopes.{AreAllNamed, left_if}
-use Rattle.cs_project.specs.Sources.{unread}
+use Rattle.cs_project.specs.Scopes.{AreAllNamed, left_if, unread}
 use Rattle.cs_project.proofs.PrintLemmas.{keeps_same, keeps_then}
 use Rattle.cs_project.proofs.NotedLemmas.{notes_more}
 use Rattle.cs_project.proofs.ScopeLemmas.{HasNamed, all_taken, any_input, if_input, input_step, left_step, named_all, named_last, named_more, none_named, or_none}

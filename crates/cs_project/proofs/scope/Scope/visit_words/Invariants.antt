@@ -5,8 +5,7 @@ use Rattle.cs_listing.specs.Models.{chosen_in}
 use Rattle.cs_tree.specs.SinkOutputs.{Keeps}
 use Rattle.cs_project.specs.Knowledge.{HoldsAsBefore}
 use Rattle.cs_project.specs.Noted.{NotesSeen}
-use Rattle.cs_project.specs.Scopes.{left_by, left_if}
-use Rattle.cs_project.specs.Sources.{InInput}
+use Rattle.cs_project.specs.Scopes.{InInput, left_by, left_if}
 use Rattle.cs_project.specs.Visits.{KnowsFor}
 use Rattle.cs_project.proofs.ScopeLemmas.{HasNamed}
 use Rattle.cs_project.proofs.scope.Scope.visit_words.Given as goal

@@ -1,49 +1,18 @@
 -- The step of one job, from the clauses of its parts.
-use Rattle.std.proofs.Common.{◌≡◌, ℕ, ◌&&◌, Bool, true, false, cond, List, [], ◌∷◌, length, refl, sym, ap, subst, ◌∙◌, inl, inr, arith, Option, Some, None, string_bytes}
+use Rattle.std.proofs.Common.{◌≡◌, ℕ, ◌&&◌, Bool, true, false, List, [], ◌∷◌, refl, sym, ap, subst, ◌∙◌, inl, inr, Option, Some, None}
 use Rattle.cs_tree.specs.Transfers.{is_io_failure}
-use Rattle.cs_cindex.proofs.Common.{clean_fault, AllByRecursion, true≢false, eqb-true, length-map, count_if, CountsOne, Grows, GrowsFlushed, Snapshot, IoFault, IndexJob, Done, Refused, CindexFault, nothing, ◌⊳◌, index_of, given_texts, has_no_path, update_of, modelled_snapshot, Indexes, JobKind, lists, clears, walks, job_kind, TakesPrefix, MayEnd, IsNext, JobTree, IsSilent, JobPrintsBy, WalkPrints, WalkPrintsSome, index_lines, list_lines, is_failed_write, base, list_fault, early_walk_fault, early_fault_of, IsOutputFault, IsWalkFault, IsLateFault, EarlyOr, Outputs, State, IsStep, IsWholeStep, prefix_all}
+use Rattle.cs_cindex.proofs.Common.{true≢false, count_if, CountsOne, Grows, GrowsFlushed, Snapshot, IoFault, IndexJob, Done, Refused, CindexFault, has_no_path, Indexes, JobKind, lists, clears, walks, job_kind, MayEnd, IsNext, JobTree, JobPrintsBy, WalkPrints, list_lines, is_failed_write, base, early_walk_fault, early_fault_of, IsLateFault, EarlyOr, Outputs, State, IsStep, IsWholeStep, prefix_all}
 use Rattle.cs_tree.specs.declared.fault.IoFault.TheVariants as io
 use Rattle.cs_args.specs.Faults.{write_refusal}
 use Rattle.cs_cindex.proofs.JobOutputLemmas.{prints_refused}
 use Rattle.cs_cindex.proofs.OutcomeLemmas.{walk_indexes}
-use Rattle.cs_cindex.proofs.RefusedJobLemmas.{walks_kind, walks_parts}
+use Rattle.cs_cindex.proofs.RefusedJobLemmas.{walks_kind}
 
 -- ---- the index after a job that does not walk
 
 refused_indexes : (job : IndexJob) (tree : Option Snapshot) (fault : CindexFault) (old : Option (List ℕ)) →
     Indexes (job ∷ []) (tree ∷ []) (Refused fault ∷ []) old old
 refused_indexes job tree fault old = record { index = λ earlier p. sym p.is_index; fitting = (tt, tt); short = λ h. h }
-
-list_indexes : (job : IndexJob) (tree : Option Snapshot) (old : Option (List ℕ)) → job.list ≡ true →
-    Indexes (job ∷ []) (tree ∷ []) (Done ∷ []) old old
-list_indexes job tree old l = record {
-  index = λ earlier p.
-      let update = update_of job (modelled_snapshot tree) in
-      sym p.is_index ∙ ap (λ b. index_of (cond b earlier
-      (cond job.reset (cond (has_no_path job) nothing (update ⊳ nothing)) (update ⊳ earlier)))) (sym l);
-  fitting = ((λ f. absurd (true≢false (sym l ∙ f))), tt);
-  short = λ h. h;
-}
-
-none_accepted : (folder : List ℕ) (texts : List (List ℕ)) → length texts ≡ 0 → AllByRecursion (λ text. clean_fault folder text ≡ None) texts
-none_accepted folder [] e = tt
-none_accepted folder (t ∷ ts) e = absurd (omega (arith, e))
-
-clear_indexes : (job : IndexJob) (tree : Option Snapshot) (old : Option (List ℕ)) → job.list ≡ false → job.reset
-    ≡ true → has_no_path job ≡ true → Indexes (job ∷ []) (tree ∷ []) (Done ∷ []) old None
-clear_indexes job tree old l r n = record {
-  index = λ earlier p.
-      let update = update_of job (modelled_snapshot tree) in
-      sym (ap (λ b. index_of (cond b earlier (cond job.reset (cond (has_no_path job) nothing (update ⊳ nothing)) (update ⊳ earlier)))) l
-      ∙ ap (λ b. index_of (cond b (cond (has_no_path job) nothing (update ⊳ nothing)) (update ⊳ earlier))) r
-      ∙ ap (λ b. index_of (cond b nothing (update ⊳ nothing))) n);
-  fitting = (
-    (λ _. none_accepted (string_bytes job.cwd) (given_texts job) (length-map job.paths.items string_bytes
-        ∙ eqb-true (length job.paths.items) 0 n)),
-    tt,
-  );
-  short = λ _. tt;
-}
 
 -- ---- counted failures
 
@@ -61,57 +30,6 @@ never_done fault e = cc
 -- ---- a job, before the outputs are flushed
 
 module _ (job : IndexJob) (tree : JobTree) (old : State) (later : Outputs) where
-  pub list_done : job.list ≡ true → list_fault old.index ≡ None → Grows old.outputs.out.model later.out.model
-      (index_lines old.index) → IsSilent tree old.outputs.err later.err → later.out.failed ≡ old.outputs.out.failed →
-      later.err.failed ≡ old.outputs.err.failed →
-      IsStep job tree Done old (record { index = old.index; outputs = later })
-  list_done l none out err o e =
-      let kind = ap (λ b. cond b lists (cond (job.reset && has_no_path job) clears walks)) l in
-      record {
-        index = list_indexes job tree.snapshot old.index l;
-        cause = ap (λ k. early_fault_of k job old.index) kind ∙ none;
-        keeps = ((λ _. refl), (λ f r n. absurd (true≢false (sym l ∙ f))));
-        walked = λ _ w. absurd (true≢false (sym l ∙ (walks_parts job w).0));
-        out = subst (λ k. Grows old.outputs.out.model later.out.model (list_lines k old.index)) (sym kind) out;
-        err = subst (λ k. JobPrintsBy k Done job tree old.index old.outputs.err later.err) (sym kind) err;
-        writes = (o, e);
-      }
-
-  pub list_refused : (fault : CindexFault) → job.list ≡ true → EarlyOr (list_fault old.index) (IsOutputFault fault)
-      fault → TakesPrefix (index_lines old.index) old.outputs.out.model later.out.model →
-      IsSilent tree old.outputs.err later.err → later.out.failed ≡ count_if (is_failed_write fault)
-      old.outputs.out.failed → later.err.failed ≡ old.outputs.err.failed → IsStep job tree (Refused fault) old
-      (record { index = old.index; outputs = later })
-  list_refused fault l cause out err o e =
-      let kind = ap (λ b. cond b lists (cond (job.reset && has_no_path job) clears walks)) l in
-      record {
-        index = refused_indexes job tree.snapshot fault old.index;
-        cause = subst (λ k. EarlyOr (early_fault_of k job old.index) (IsLateFault k job tree.snapshot old.index fault)
-            fault) (sym kind) cause;
-        keeps = refl;
-        walked = λ h. absurd (never_done fault h);
-        out = subst (λ k. TakesPrefix (list_lines k old.index) old.outputs.out.model later.out.model) (sym kind) out;
-        err = subst (λ k. JobPrintsBy k (Refused fault) job tree old.index old.outputs.err later.err) (sym kind) err;
-        writes = counts_out (is_failed_write fault) old.outputs.out.failed later.out.failed old.outputs.err.failed later.err.failed o e;
-      }
-
-  pub clear_done : job.list ≡ false → job.reset ≡ true → has_no_path job ≡ true →
-      Grows old.outputs.out.model later.out.model [] → IsSilent tree old.outputs.err later.err → later.out.failed
-      ≡ old.outputs.out.failed → later.err.failed ≡ old.outputs.err.failed →
-      IsStep job tree Done old (record { index = None; outputs = later })
-  clear_done l r n out err o e =
-      let alone = ap (λ b. b && has_no_path job) r ∙ n in
-      let kind = ap (λ b. cond b lists (cond (job.reset && has_no_path job) clears walks)) l ∙ ap (λ b. cond b clears walks) alone in
-      record {
-        index = clear_indexes job tree.snapshot old.index l r n;
-        cause = ap (λ k. early_fault_of k job old.index) kind;
-        keeps = ((λ f. absurd (true≢false (sym f ∙ l))), (λ _ _ _. refl));
-        walked = λ _ w. absurd (true≢false (sym alone ∙ (walks_parts job w).1));
-        out = subst (λ k. Grows old.outputs.out.model later.out.model (list_lines k old.index)) (sym kind) out;
-        err = subst (λ k. JobPrintsBy k Done job tree old.index old.outputs.err later.err) (sym kind) err;
-        writes = (o, e);
-      }
-
   module _ (w : (job.list ≡ false) × ((job.reset && has_no_path job) ≡ false)) (from : Option (List ℕ))
       (is : base job old.index ≡ from) (out : Grows old.outputs.out.model later.out.model [])
       (o : later.out.failed ≡ old.outputs.out.failed) where
@@ -136,25 +54,6 @@ module _ (job : IndexJob) (tree : JobTree) (old : State) (later : Outputs) where
           writes = (o, e);
         }
 
-    pub walk_refused : (fault : CindexFault) → EarlyOr (early_walk_fault job from)
-        (IsWalkFault job tree.snapshot from fault) fault → WalkPrintsSome (early_walk_fault job from) fault job tree
-        from old.outputs.err later.err → later.err.failed ≡ count_if (is_failed_write fault) old.outputs.err.failed →
-        IsStep job tree (Refused fault) old (record { index = old.index; outputs = later })
-    walk_refused fault cause err e =
-        let kind = walks_kind job w in
-        record {
-          index = refused_indexes job tree.snapshot fault old.index;
-          cause = subst (λ k. EarlyOr (early_fault_of k job old.index) (IsLateFault k job tree.snapshot old.index fault) fault) (sym kind)
-              (subst (λ b. EarlyOr (early_walk_fault job b) (IsWalkFault job tree.snapshot b fault) fault) (sym is) cause);
-          keeps = refl;
-          walked = λ h. absurd (never_done fault h);
-          out = subst (λ k. TakesPrefix (list_lines k old.index) old.outputs.out.model later.out.model) (sym kind)
-              (prefix_all [] old.outputs.out.model later.out.model out);
-          err = subst (λ k. JobPrintsBy k (Refused fault) job tree old.index old.outputs.err later.err) (sym kind)
-              (subst (λ b. WalkPrintsSome (early_walk_fault job b) fault job tree b old.outputs.err later.err) (sym is) err);
-          writes = counts_err (is_failed_write fault) old.outputs.out.failed later.out.failed old.outputs.err.failed later.err.failed o e;
-        }
-
 -- ---- the flushes
 
 late_output : (kind : JobKind) (job : IndexJob) (tree : Option Snapshot) (old : Option (List ℕ)) (fault : IoFault) →
@@ -172,11 +71,6 @@ is_write io.Memory = refl
 
 module _ (job : IndexJob) (tree : JobTree) (old : State) (index : Option (List ℕ)) (mid later : Outputs)
     (done : IsStep job tree Done old (record { index = index; outputs = mid })) where
-  pub step_flushed : GrowsFlushed mid.out.model later.out.model [] → GrowsFlushed mid.err.model later.err.model [] →
-      later.out.failed ≡ mid.out.failed → later.err.failed ≡ mid.err.failed →
-      IsWholeStep job tree Done old (record { index = index; outputs = later })
-  step_flushed out err o e = record { printed = mid; step = done; flushes = (out, err); out_failed = o; err_failed = e }
-
   -- a flush failed: the output before it, with the failure counted
   module _ (fault : CindexFault) (why : IoFault) (is : fault ≡ write_refusal why) where
     abbrev printed : Outputs

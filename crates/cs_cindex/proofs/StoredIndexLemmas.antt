@@ -1,6 +1,6 @@
 -- The base index in a store.
 use Rattle.std.proofs.Common.{◌≡◌, ℕ, true, false, cond, not, List, refl, sym, ap, subst, ◌∙◌, inl, Option, Some, None, Ok, IsSomeAnd}
-use Rattle.cs_cindex.proofs.Common.{list_all, is_normalized, are_distinct, Parts, StandsIn, StoredParts, OpensAsTables, TableParts, CindexFault, BadIndex, Unsorted, IsFit, IsFitFor, opening_fault, unfit_parts_fault, EarlyOr}
+use Rattle.cs_cindex.proofs.Common.{list_all, is_normalized, are_distinct, Parts, StandsIn, StoredParts, OpensAsTables, TableParts, CindexFault, BadIndex, Unsorted, opening_fault, unfit_parts_fault, EarlyOr}
 use Rattle.cs_index.specs.Opening.{opening}
 use Rattle.cs_index.specs.declared.fault.IndexFault.TheVariants.{BadPaths}
 use Rattle.cs_index.proofs.decoding.DecodableBytesOpen.{opens_as_decoded}
@@ -36,16 +36,6 @@ module _ (bytes : List ℕ) (tables : TableParts) (opens : OpensAsTables bytes (
   pub unsorted : (Late : Type 0) → list_all is_normalized tables.paths ≡ true → are_distinct tables.names ≡ false →
       EarlyOr (opening_fault unfit_parts_fault (opening bytes)) Late Unsorted
   unsorted Late good twice = faulted Unsorted Late (names_fault good twice) (inl refl)
-
-  pub fit_for : IsFit tables → IsFitFor bytes tables
-  fit_for fit = record {
-    parts = opens.0;
-    are = opens.1;
-    fit =
-        ap (λ b. cond (not b) (Some (BadIndex BadPaths)) (cond (not (are_distinct opens.0.names)) (Some Unsorted) None))
-        (ap (list_all is_normalized) (sym opens.1.stands.paths) ∙ fit.normalized)
-        ∙ ap (λ b. cond (not b) (Some Unsorted) None) (ap are_distinct (sym opens.1.names) ∙ fit.distinct);
-  }
 
 -- ---- the bytes of a store that are known
 

@@ -5,12 +5,9 @@ use Rattle.std.specs.List.{filter_map, list_any, cons_option}
 use Rattle.std.specs.Option.{option_to_list}
 use Rattle.cs_listing.specs.Choices.{Settings}
 use Rattle.cs_command.specs.declared.words.WordItem.{WordItem}
-use Rattle.cs_command.specs.Choices.{Choice, Chooses, ChoosesAll, is_fault_of, IsChoiceIn}
+use Rattle.cs_command.specs.Choices.{Choice, ChoosesAll, is_fault_of, IsChoiceIn}
 use Rattle.std.proofs.lemmas.Bool.{or_cases, or_left, or_right, false≢true}
 use Rattle.cs_command.specs.declared.fault.RequestFault.{RequestFault}
-
-pub one_choice : (choice : Choice) (old new : Settings) → Chooses choice old new → ChoosesAll (choice ∷ []) old new
-one_choice choice old new h = (new, h, refl)
 
 pub more_choices : (first more : List Choice) (old mid new : Settings) → ChoosesAll first old mid → ChoosesAll more mid new
     → ChoosesAll (first ++ more) old new

@@ -1,17 +1,14 @@
 -- Texts and their patterns.
-use Rattle.std.proofs.Common.{◌≡◌, ℕ, ◌+◌, ◌<◌, ◌≤◌, Bool, true, false, ◌||◌, List, [], ◌∷◌, length, drop, get_or, map, refl, sym, ap, ◌∙◌, arith}
-use Rattle.std.specs.Prelude.{◌≢◌, if◌then◌else◌, Result, Ok, Err}
+use Rattle.std.proofs.Common.{◌≡◌, ℕ, ◌+◌, ◌<◌, ◌≤◌, Bool, true, false, ◌||◌, List, [], ◌∷◌, length, drop, get_or, map, refl, ap, ◌∙◌, arith}
+use Rattle.std.specs.Prelude.{if◌then◌else◌, Result, Ok, Err}
 use Rattle.std.proofs.lemmas.Bool.{le-ltb, lt-ltb}
 use Rattle.std.proofs.lemmas.List.{at_drop_all, at_drop_more}
 use Rattle.cs_syntax.specs.Matching.{Tree}
-use Rattle.cs_syntax.specs.ParseErrors.{IsParseError, syntax, too_large, memory}
-use Rattle.cs_syntax.specs.Parsing.{ParseResult, tree, rejected, ParsesAs}
 use Rattle.cs_syntax.specs.Joining.{either, pattern_of}
 use Rattle.cs_syntax.specs.Weight.{max_weight, weight}
-use Rattle.cs_syntax.specs.declared.fault.PatternError.{PatternError}
-use Rattle.cs_syntax.specs.declared.fault.PatternFault.TheVariants.{TooLarge, Memory}
+use Rattle.cs_syntax.specs.declared.fault.PatternFault.TheVariants.{TooLarge}
 use Rattle.cs_command.specs.declared.settings.PatternStyle.{PatternStyle}
-use Rattle.cs_command.specs.Patterns.{is_capital, escapes, has_capital_after, parsed_text, pattern_at, located, joined}
+use Rattle.cs_command.specs.Patterns.{is_capital, escapes, has_capital_after, pattern_at, located, joined}
 use Rattle.cs_command.specs.WordLines.{LineView, line_view}
 use Rattle.cs_command.specs.declared.fault.RequestFault.{RequestFault}
 use Rattle.cs_command.specs.declared.word_lines.WordLine.{WordLine}
@@ -41,22 +38,6 @@ light t h = ap (λ b. if b then Err (record { fault = TooLarge; at = 0 }) else O
 
 heavy : (t : Tree) → max_weight < weight t → pattern_of t ≡ Err (record { fault = TooLarge; at = 0 })
 heavy t h = ap (λ b. if b then Err (record { fault = TooLarge; at = 0 }) else Ok t) (lt-ltb max_weight (weight t) h)
-
--- what a parse is as a pattern
-abbrev of_parse : ParseResult → Result Tree PatternError
-of_parse result = elim result [ tree t ↦ pattern_of t | rejected fault offset ↦ Err (record { fault = fault; at = offset }) ]
-
-error_is : (e : PatternError) → e.fault ≡ TooLarge → e.at ≡ 0 → record { fault = TooLarge; at = 0 } ≡ e
-error_is e fault offset = λ i. record { fault = sym fault i; at = sym offset i }
-
-pub parsed_ok : (text : List ℕ) (fold : Bool) (t : Tree) → ParsesAs text fold t → weight t ≤ max_weight → parsed_text false fold text ≡ Ok t
-parsed_ok text fold t parses h = ap of_parse parses ∙ light t h
-
-pub parsed_err : (text : List ℕ) (fold : Bool) (e : PatternError) → IsParseError text fold e → e.fault ≢ Memory → parsed_text false fold text ≡ Err e
-parsed_err text fold e (syntax _ is) other = ap of_parse is
-parsed_err text fold e (too_large fault offset t parses h) other =
-    ap of_parse parses ∙ heavy t h ∙ ap Err (error_is e fault offset)
-parsed_err text fold e (memory fault _) other = absurd (other fault)
 
 -- ---- joined patterns
 

@@ -17,7 +17,7 @@ import time
 import running
 from running import complain, home, program, read, write
 
-# How many files each project has (a search reads the first 500 always), and whether its `.git` is a folder, a file, or missing.
+# How many files each project has (a search reads the first 99 always), and whether its `.git` is a folder, a file, or missing.
 PROJECTS = [(1000, "git"), (1300, "git"), (40, "git"), (900, "file"), (1000, "plain")]
 RARE = ["marker", "rarest", "Omega", "zetazeta", "return"]
 PATTERNS = [*RARE, "nowhere at all", "(?i)OMEGA", "^alpha", "a$", "", "marker|rarest", "zeta[a-z]"]

@@ -204,9 +204,9 @@ holds "cmp '$state' '$fresh/state' && [ \"\$(cs marker)\" = 'd:a last marker' ] 
 cd "$HOME/few" && gives 0 'cs "line 7$"' && holds '[ ! -e .git/codesearch ]'
 # what a file .git names is not written to, nor is a plain folder
 cd "$HOME/file" && gives 1 'cs nowhere' && holds '[ "$(echo $(ls ../named/.git))" = "HEAD objects refs" ]'
-cd "$HOME/loose" && gives 1 'cs nowhere' && holds '[ -z "$(ls | grep -v "^f[0-9]*$")" ]'
+cd "$HOME/loose" && gives 0 'cs --update' && holds '[ -z "$(ls | grep -v "^f[0-9]*$")" ]'
 holds "[ \$(stat -c %a '$cache') = 700 ] && [ \$(ls '$cache'/*/state | wc -l) = 2 ] && is_state '$cache'/\$(printf %s \"\$PWD\" | sha1sum | cut -c 1-40)/state"
-gives 1 'XDG_CACHE_HOME=$HOME/other cs nowhere'
+gives 0 'XDG_CACHE_HOME=$HOME/other cs --update'
 holds 'is_state "$HOME"/other/codesearch/*/state'
 gives 0 'cs --help | grep -q -- --no-state'
 holds "[ \"\$(cs --version)\" = \"cs \$(cat '$root/VERSION')\" ]"

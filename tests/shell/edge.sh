@@ -44,14 +44,14 @@ state=$HOME/many/.git/codesearch/state
 sleep 3.2
 gives 0 'cs --update'
 holds "[ \$(stat -c %a '$state') = 600 ] && cp -p '$state' '$fresh/state'"
-# most of what the state knows is gone, so a search that ends takes it away; one that is stopped does not
+# most of what the state knows is gone, so a search that ends makes it anew; one that is stopped does not
 mkdir "$HOME/away" && mv f[1-9]??? f[7-9]?? "$HOME/away" || exit 2
 holds "cs line | head -n 1 | grep -q line && cmp '$state' '$fresh/state'"
 gives 0 'cs -q line && cmp "$state" "$fresh/state"'
 holds "! (ulimit -n 4; cs nowhere 2>&1) | grep -v '^cs: ' && cmp '$state' '$fresh/state'"
 gives 1 'cs --no-update nowhere'
 gives 1 'cmp "$state" "$fresh/state" && cs nowhere'
-holds "[ ! -e '$state' ]"
+holds "[ \$(stat -c %s '$state') -lt 1000 ]"
 # the reader of the output has gone: as if the rest had been printed
 closed() { python3 -B -c 'import os, subprocess, sys
 up, down = os.pipe()

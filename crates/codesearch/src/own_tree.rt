@@ -40,6 +40,11 @@ impl OwnTree {
         }
     }
 
+    /// From now on the device of the folder at a path is 0 in stamps.
+    pub(crate) fn count_from(&mut self, path: &str) {
+        self.inner.count_from(path);
+    }
+
     /// Whether a path, at which a repository is looked for, is that of a stranger's.
     fn is_strange(&self, path: &str) -> bool {
         let Some(git) = git_path(path) else {

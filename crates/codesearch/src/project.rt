@@ -130,7 +130,7 @@ impl RunEnd {
 }
 
 /// The exit status after what was learned is stored, or not. A failure only makes later searches
-/// slower, so on a terminal a line says it; `--update` that stores nothing fails.
+/// slower; `--update` that stores nothing fails.
 fn status_after_learning(
     rt: &HostRuntime,
     is_update: bool,
@@ -138,14 +138,8 @@ fn status_after_learning(
     status: u8,
 ) -> u8 {
     match learned {
-        Ok(()) => status,
-        Err(StorageFault::Locked) if !is_update => status,
-        Err(fault) => {
-            if is_update || rt.stderr().is_terminal() {
-                refuse(rt, unstored_line(fault));
-            }
-            if is_update { 2 } else { status }
-        }
+        Err(fault) if is_update => refuse(rt, unstored_line(fault)),
+        _ => status,
     }
 }
 

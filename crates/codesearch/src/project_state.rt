@@ -1,21 +1,27 @@
 // The state of a project on the disk.
-ghost use Rattle.std.specs.Prelude.{◌≡◌, ◌≤◌, ◌<◌, [], length};
+ghost use Rattle.std.specs.Prelude.{◌≡◌, ◌<◌, []};
 
 use crate::own_tree::OwnTree;
 use crate::part_file::PartFile;
 use crate::progress::{CountedTree, ProgressLine};
-use crate::state_folder::{StateFolder, project_root};
+use crate::state_folder::{Project, StateFolder};
 use cs_learned::{ClosedState, StateKnowledge};
 use cs_state::StateFile;
 use cs_storage::{
     DiskFolder, DiskIndex, IndexFolder, IndexUpdate, NewFile, StorageFault, begin_update,
     finish_update, replace_file,
 };
-use cs_tree::{DiskStore, DiskTree, Look, Output, Store};
-use cs_update::{SeenFile, StateParts, UpdateCall, UpdateFault, first_state, is_due, update_state};
-use std::alloc::AllocError;
+use cs_tree::{DiskStore, DiskTree, Look, Output, StdSink, Store, write_all};
+use cs_update::{
+    SeenFile, StateParts, UpdateCall, UpdateFault, batch_len, first_state, is_due, update_state,
+};
+use std::alloc::{AllocError, Global};
 use std::fs::File;
+use std::io::IsTerminal;
 use std::time::SystemTime;
+
+/// The bytes of the files that a search learns, so that it ends soon after its output.
+const BUDGET: u64 = 150_000_000;
 
 /// The bytes of the files of a batch, unless there are too many batches: each is merged with the
 /// old state. Their postings take a fifth of that in memory.
@@ -77,12 +83,6 @@ impl FoundState {
         })
     }
 
-    /// Takes the file away.
-    fn remove(&mut self) -> Result<(), StorageFault> {
-        begin_update(&mut self.storage)?;
-        finish_update(&mut self.storage, &IndexUpdate::Remove)
-    }
-
     /// Stores what is learned of files over the old state, or as a first one. So that little memory
     /// is taken, an update learns a batch at a time, and a first state is joined from parts.
     fn learn(
@@ -95,8 +95,10 @@ impl FoundState {
         self.home.make(rt);
         self.home.remove_shared(rt)?;
         let progress = ProgressLine::new(rt, "cs: learning", true)?;
+        let mut inner = DiskTree::of_files(rt.clone()?);
+        inner.count_from(root);
         let mut tree = CountedTree {
-            inner: DiskTree::of_files(rt.clone()?),
+            inner,
             progress: &progress,
         };
         let learned = if is_open {
@@ -120,8 +122,10 @@ impl FoundState {
         let mut rest = files;
         for _ in 0..files.len() {
             let (batch, later) = rest.split_at(batch_len(rest, most));
-            let old = self.closed();
-            self.store(rt, root, batch, old, tree)?;
+            let Some(old) = self.closed() else {
+                return Err(StorageFault::Failed);
+            };
+            self.store(rt, root, batch, Some(old), tree)?;
             rest = later;
             if rest.is_empty() {
                 break;
@@ -132,7 +136,7 @@ impl FoundState {
     }
 
     /// Stores what is learned of files over the old state, or as a first one. A damaged state is
-    /// taken away.
+    /// taken away, and nothing is stored.
     fn store<T: Look>(
         &mut self,
         rt: &HostRuntime,
@@ -161,7 +165,10 @@ impl FoundState {
         };
         match written {
             Ok(()) => replace_file(&mut self.storage),
-            Err(UpdateFault::BadState) => finish_update(&mut self.storage, &IndexUpdate::Remove),
+            Err(UpdateFault::BadState) => {
+                finish_update(&mut self.storage, &IndexUpdate::Remove)?;
+                Err(StorageFault::Failed)
+            }
             Err(_) => {
                 self.storage.release();
                 Err(StorageFault::Failed)
@@ -248,25 +255,13 @@ fn batch_size(files: &[SeenFile], least: u64, most_batches: u64) -> u64
     least.max(len / most_batches)
 }
 
-/// The number of files of the first batch: at least one, and all up to so many bytes.
-fn batch_len(files: &[SeenFile], most: u64) -> usize
-    ensures { result ≤ length files.now }
-{
-    let mut len: u64 = 0;
-    for (at, file) in files.iter().enumerate() {
-        if len > most {
-            return at;
-        }
-        len = len.saturating_add(file.stamp.size);
-    }
-    files.len()
-}
-
 /// The state of a project on the disk.
 #[derive(Drop)]
 pub(crate) struct DiskState {
     /// Whether the current folder is that of the project.
     is_at_root: bool,
+    /// Whether the project is a repository.
+    is_repository: bool,
     /// Where the state is, or where one may be made; the best first.
     found: Vec<FoundState>,
 }
@@ -280,7 +275,11 @@ impl DiskState {
         cache: Option<&str>,
     ) -> Result<(DiskState, StateKnowledge<DiskIndex>), AllocError> {
         let alloc = rt.alloc();
-        let root = project_root(alloc, tree, folder)?;
+        let Project {
+            root,
+            is_repository,
+        } = Project::above(alloc, tree, folder)?;
+        tree.count_from(root.as_str());
         let mut found = Vec::new(alloc);
         for home in StateFolder::of_project(rt, root.as_str(), cache)? {
             let state = FoundState::open(rt, home)?;
@@ -299,57 +298,105 @@ impl DiskState {
         };
         let is_at_root = root.as_str() == folder || (root.is_empty() && folder == "/");
         let known = StateKnowledge::new(alloc, root, closed);
-        Ok((DiskState { is_at_root, found }, known))
+        let state = DiskState {
+            is_at_root,
+            is_repository,
+            found,
+        };
+        Ok((state, known))
     }
 
-    /// The length of the state that was opened; 0 if there is none.
-    fn len(&self) -> u64 {
-        match self.found.first() {
-            Some(state) => state.file.as_ref().map_or(0, |file| file.len() as u64),
-            None => 0,
-        }
+    /// The length of the state that was opened, if there is one.
+    fn len(&self) -> Option<u64> {
+        let file = self.found.first()?.file.as_ref()?;
+        Some(file.len() as u64)
     }
 
-    /// Whether the files that were not known are to be learned.
+    /// Whether the files that were not known are to be learned. Outside of a repository only
+    /// `--update` makes a first state.
     fn is_due(&self, rt: &HostRuntime, known: &StateKnowledge<DiskIndex>) -> bool {
         let files = known.unknown();
         if known.is_update() {
             // A state that knows all stays.
             return !known.is_open() || !files.is_empty();
         }
-        is_due(files, self.len(), now(rt))
+        match self.len() {
+            None if !self.is_repository => false,
+            len => is_due(files, len.unwrap_or(0), now(rt)),
+        }
     }
 
-    /// Learns the files that were not known, if that is due, in the best folder that takes it. If
+    /// Learns the files that were not known, if that is due: a search so many that it ends soon. If
     /// the search has ended by itself, a state most of whose texts are no longer in the project is
-    /// taken away, so that a later search makes it anew. Where another run stores what it has
-    /// learned, this one stores nothing (`Locked`).
+    /// made anew.
     pub(crate) fn learn(
         &mut self,
         rt: &HostRuntime,
         known: &StateKnowledge<DiskIndex>,
         is_ended: bool,
     ) -> Result<(), StorageFault> {
-        let files = known.unknown();
+        let unknown = known.unknown();
         let is_outdated = self.is_at_root && known.is_outdated(is_ended) && !known.is_update();
         if !is_outdated && !self.is_due(rt, known) {
             return Ok(());
         }
+        let most = if known.is_update() { u64::MAX } else { BUDGET };
+        let (files, rest) = unknown.split_at(batch_len(unknown, most));
+        self.store(rt, known.root(), files, known.is_open() && !is_outdated)?;
+        say_rest(rt, known.met(), rest.len())?;
+        Ok(())
+    }
+
+    /// Learns files, in the best folder that can be written to. Where another run stores what it
+    /// has learned, this one stores nothing (`Locked`).
+    fn store(
+        &mut self,
+        rt: &HostRuntime,
+        root: &str,
+        files: &[SeenFile],
+        is_open: bool,
+    ) -> Result<(), StorageFault> {
         let mut stored = Err(StorageFault::Failed);
         for state in &mut self.found {
-            stored = if is_outdated {
-                state.remove()
-            } else {
-                state.learn(rt, known.root(), files, known.is_open())
-            };
+            stored = state.learn(rt, root, files, is_open);
             match stored {
                 Err(fault) if state.is_taken(fault) => return Err(StorageFault::Locked),
+                Err(_) if !state.home.is_empty(rt)? => return stored,
                 Err(_) => {}
                 Ok(()) => return Ok(()),
             }
         }
         stored
     }
+}
+
+/// Says on a terminal how many of the files that a search has met are known, if some are not.
+fn say_rest(rt: &HostRuntime, met: usize, rest: usize) -> Result<(), AllocError> {
+    if rest == 0 || !rt.stderr().is_terminal() {
+        return Ok(());
+    }
+    let alloc = rt.alloc();
+    let known = with_commas(alloc, met.saturating_sub(rest))?;
+    let met = with_commas(alloc, met)?;
+    let (known, met) = (known.as_str(), met.as_str());
+    let line = format!(in alloc;
+        "cs: {known} of {met} files are known; cs --update learns the others\n"
+    )?;
+    let _ = write_all(&mut StdSink::new(rt.stderr()), line.as_bytes());
+    Ok(())
+}
+
+/// A number with a comma before its last three digits, and before the three above.
+fn with_commas(alloc: Global, number: usize) -> Result<String, AllocError> {
+    let (thousands, units) = (number / 1000, number % 1000);
+    if thousands == 0 {
+        return format!(in alloc; "{units}");
+    }
+    let (millions, thousands) = (thousands / 1000, thousands % 1000);
+    if millions == 0 {
+        return format!(in alloc; "{thousands},{units:03}");
+    }
+    format!(in alloc; "{millions},{thousands:03},{units:03}")
 }
 
 /// The time of the clock in nanoseconds since 1970, to the second.

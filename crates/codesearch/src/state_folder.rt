@@ -31,17 +31,33 @@ pub(crate) struct StateFolder {
     pub(crate) is_shared: bool,
 }
 
-/// The project of a folder: the root of the nearest repository, or else the folder itself. It is
-/// empty for `/`, so that it stands before the names of the project.
-pub(crate) fn project_root<T: Look>(
-    alloc: Global,
-    tree: &mut T,
-    folder: &str,
-) -> Result<String, AllocError> {
-    match repository_above(alloc, tree, folder)? {
-        Some(found) => Ok(found.root),
-        None if folder == "/" => Ok(String::new(alloc)),
-        None => String::from_str(alloc, folder),
+/// The project of a folder.
+#[derive(Drop)]
+pub(crate) struct Project {
+    /// The path of its folder. It is empty for `/`, so that it stands before the names of the
+    /// project.
+    pub(crate) root: String,
+    pub(crate) is_repository: bool,
+}
+
+impl Project {
+    /// The nearest repository, or else the folder itself.
+    pub(crate) fn above<T: Look>(
+        alloc: Global,
+        tree: &mut T,
+        folder: &str,
+    ) -> Result<Project, AllocError> {
+        let found = repository_above(alloc, tree, folder)?;
+        let is_repository = found.is_some();
+        let root = match found {
+            Some(found) => found.root,
+            None if folder == "/" => String::new(alloc),
+            None => String::from_str(alloc, folder)?,
+        };
+        Ok(Project {
+            root,
+            is_repository,
+        })
     }
 }
 
@@ -88,6 +104,14 @@ impl StateFolder {
         format!(in alloc; "{folder}/state~part")
     }
 
+    /// Whether there is neither a state nor one that a run makes.
+    pub(crate) fn is_empty(&self, rt: &HostRuntime) -> Result<bool, AllocError> {
+        let folder = self.path.as_str();
+        let file = format!(in rt.alloc(); "{folder}/state")?;
+        let temp = format!(in rt.alloc(); "{folder}/state~")?;
+        Ok(!is_there(rt, file.as_str()) && !is_there(rt, temp.as_str()))
+    }
+
     /// Takes away a state that others may write to.
     pub(crate) fn remove_shared(&self, rt: &HostRuntime) -> Result<(), AllocError> {
         if self.is_shared {
@@ -126,6 +150,11 @@ fn add_folder(
         is_shared,
     })?;
     Ok(())
+}
+
+/// Whether there is anything at a path, as far as can be seen.
+fn is_there(rt: &HostRuntime, path: &str) -> bool {
+    fs::symlink_metadata(rt, path).is_ok()
 }
 
 /// Whether others may write there.

@@ -1,4 +1,4 @@
--- Which files a search over a state reads.
+-- Which files a search over a state reads, and when it opens the state.
 use Rattle.std.proofs.Common.{◌≡◌, ℕ, Bool, true, false, List, [], ◌∷◌, Some, None, refl, codes}
 use Rattle.cs_tree.specs.Snapshot.{file}
 use Rattle.cs_tree.specs.declared.tree.Stamp.{Stamp}
@@ -8,6 +8,7 @@ use Rattle.cs_lines.specs.declared.form.ShowOptions.{ShowOptions}
 use Rattle.cs_state.specs.Known.{binary, apart, ProjectState}
 use Rattle.cs_known.specs.Learned.{View}
 use Rattle.cs_learned.specs.Fresh.{ListedFile, items_read}
+use Rattle.cs_learned.specs.Thresholds.{files_before}
 
 -- ---- a state with a binary file, and a text apart
 
@@ -58,3 +59,14 @@ two_of_three_files_are_read = refl
 a_binary_file_that_is_named_is_read : items_read plain false Nothing state same (listed (codes "/b") (codes "b") true ∷ [])
     ≡ (codes "b", file (codes "x\n"), true) ∷ []
 a_binary_file_that_is_named_is_read = refl
+
+-- ---- after how many files
+
+a_short_state_is_opened_soon : files_before 1999999 ≡ 100
+a_short_state_is_opened_soon = refl
+
+a_state_of_2_mb_later : files_before 2000000 ≡ 600
+a_state_of_2_mb_later = refl
+
+a_state_of_149_mb_last : files_before 149000000 ≡ 1490
+a_state_of_149_mb_last = refl

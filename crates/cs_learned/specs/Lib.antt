@@ -5,3 +5,4 @@ pub mod LaterSearches
 pub mod Learnable
 pub mod NotedFiles
 pub mod ClosedStates
+pub mod Thresholds

@@ -1,5 +1,5 @@
 // The state file of a project as the knowledge of a search.
-ghost use Rattle.std.specs.Prelude.{◌≡◌, ℕ, List, [], false, IfOk, IfSome, string_bytes};
+ghost use Rattle.std.specs.Prelude.{◌≡◌, if◌then◌else◌, ℕ, List, [], false, IfOk, IfSome, string_bytes};
 ghost use Rattle.std.specs.List.{All};
 ghost use Rattle.cs_project.specs.Knowledge.{HoldsAsBefore, SearchedTree};
 ghost use Rattle.cs_project.specs.Noted.{NotesNothing};
@@ -8,6 +8,7 @@ ghost use Rattle.cs_learned.specs.ClosedStates.{AsksFor, IsPreparedFor, IsStillK
 ghost use Rattle.cs_learned.specs.KnownProjects.{AreKnownFor};
 ghost use Rattle.cs_learned.specs.Learnable.{IsLearnable};
 ghost use Rattle.cs_learned.specs.NotedFiles.{AreSeenBelow, noted_in};
+ghost use Rattle.cs_learned.specs.Thresholds.{files_before as files_before', learns_now, length_of as length_of'};
 
 use crate::closed_state::{ClosedState, PreparedState};
 use crate::known_project::KnownProject;
@@ -19,11 +20,23 @@ use cs_tree::{IoFault, Stamp, Store};
 use cs_trigram::{Query, query};
 use std::alloc::{AllocError, Global};
 
-/// The number of files from which on a state is read: fewer are read sooner than it.
-const FEW: usize = 500;
+/// The number of files from which on a search learns.
+const MANY: usize = 500;
+
+/// A state of fewer bytes is opened in less than 1 ms.
+const SHORT: usize = 2_000_000;
+
+/// The number of files from which on a short state is opened.
+const FEW: usize = 100;
+
+/// The least number of files from which on another one is opened, in 2 ms and more.
+const SOME: usize = 600;
+
+/// In the time in which so many bytes of a state are opened a file is read.
+const FILE_BYTES: usize = 100_000;
 
 /// The state file of a project as the knowledge of a search. The file is opened when the search has
-/// come to many files.
+/// come to as many files as are read in the time that this takes.
 #[derive(Drop)]
 pub struct StateKnowledge<S: Store> {
     alloc: Global,
@@ -32,6 +45,8 @@ pub struct StateKnowledge<S: Store> {
     /// The file of a search that has come to few files.
     prepared: Option<PreparedState<S>>,
     known: KnownProject<FirstBytes<SummedBytes<S>>, SummedBytes<S>>,
+    /// The number of files from which on the file is opened.
+    few: usize,
     /// How many files the search has come to.
     met: usize,
     /// Whether what is unknown is to be learned.
@@ -48,9 +63,11 @@ impl<S: Store + Drop> StateKnowledge<S> {
         ensures root { result.known.root ≡ root }
         ensures closed { result.closed ≡ closed }
         ensures noted { ⟦<StateKnowledge<S> as Knowledge>⟧.noted result ≡ [] }
+        ensures few { result.few ≡ files_before' (length_of' S.size closed) }
     {
         StateKnowledge {
             alloc,
+            few: files_before(length_of(&closed)),
             closed,
             prepared: None,
             known: KnownProject::new(alloc, root, None),
@@ -59,6 +76,11 @@ impl<S: Store + Drop> StateKnowledge<S> {
             is_update: false,
             is_whole: false,
         }
+    }
+
+    /// How many files the search has come to.
+    pub fn met(&self) -> usize {
+        self.met
     }
 
     /// Whether the search was over a state that is no damaged file.
@@ -91,14 +113,18 @@ impl<S: Store + Drop> StateKnowledge<S> {
         self.known.root.as_str()
     }
 
-    /// The files that are to be learned, by ascending names.
+    /// The files that are to be learned, by ascending names: none before the state is read, which
+    /// may know them.
     #[tactic(auto, using(crate::proofs::NotedLemmas::seen_below))]
     pub fn unknown(&self) -> &[SeenFile]
         ensures seen { AreSeenBelow (string_bytes self.now.known.root)
             (⟦<StateKnowledge<S> as Knowledge>⟧.noted self.now) result.now }
         ensures learnable { All IsLearnable result.now }
+        ensures which { result.now ≡ (if learns_now self.now.is_update self.now.learns self.now.met
+            self.now.prepared then self.now.known.unknown.items else []) }
     {
-        if self.is_update || (self.learns && self.met >= FEW) {
+        let is_many = self.learns && self.met >= MANY && self.prepared.is_none();
+        if self.is_update || is_many {
             &self.known.unknown
         } else {
             &[]
@@ -146,10 +172,32 @@ impl<S: Store + Drop> StateKnowledge<S> {
             (⟦<StateKnowledge<S> as Knowledge>⟧.noted self.new) }
     {
         self.met = self.met.saturating_add(1);
-        if self.met == FEW {
+        if self.met == self.few {
             return self.open();
         }
         Ok(())
+    }
+}
+
+/// The length of a state; 0 if there is none.
+fn length_of<S: Store>(closed: &Option<ClosedState<S>>) -> usize
+    ensures { result ≡ length_of' S.size closed.now }
+{
+    match closed {
+        Some(state) => state.file.len(),
+        None => 0,
+    }
+}
+
+/// The number of files from which on a state of this length is opened: without it, fewer are read
+/// sooner.
+fn files_before(len: usize) -> usize
+    ensures { result ≡ files_before' len }
+{
+    if len < SHORT {
+        FEW
+    } else {
+        SOME.max(len / FILE_BYTES)
     }
 }
 

@@ -17,6 +17,7 @@ pub use Rattle.cs_tree.specs.Snapshot.{Snapshot, item_at}
 pub use Rattle.cs_trigram.specs.Scans.{AreDistinctTrigrams}
 pub use Rattle.cs_trigram.specs.Trigram.{set_of_numbers}
 pub use Rattle.cs_update.specs.Contents.{found_content, has_distinct, seen_content, text, unindexed}
+pub use Rattle.cs_update.specs.Due.{IsBatch, is_due, old_bytes, old_size}
 pub use Rattle.cs_update.specs.JoinedStates.{AreKnownStamps, AreOpen, IsBodyOf, IsJoinedState, KeepsBody, known_in, parts_of}
 pub use Rattle.cs_update.specs.Learning.{HasLearned, IsProjectName, LearnedFile, all_learned, learned_if_old, run_of, seen_by, seen_of, with_learned}
 pub use Rattle.cs_update.specs.MergedLists.{after, before, merged, own_left, stamps_in, uncovered}

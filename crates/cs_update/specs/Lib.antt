@@ -4,6 +4,7 @@ pub mod Learning
 pub mod Updates
 pub mod Updating
 pub mod OldTexts
+pub mod Due
 pub mod JoinedStates
 -- Definitions that private contracts cite.
 pub mod Reads

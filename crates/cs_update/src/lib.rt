@@ -48,7 +48,7 @@ mod writing;
 
 pub use call::UpdateCall;
 pub use cs_known::SeenFile;
-pub use due::is_due;
+pub use due::{batch_len, is_due};
 pub use fault::UpdateFault;
 pub use learned::Learned;
 pub use learning::learn_files;

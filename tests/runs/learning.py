@@ -157,6 +157,15 @@ def not_learned(odd):
     stays("an old one is", odd, "--update", status=0)
 
 
+def damaged(project):
+    """A damage that only an update finds takes the state away."""
+    state = bytearray(read(project.state))
+    state[len(state) // 2] ^= 1
+    write(project.state, state)
+    row("an update of a damaged state", (project.ran("--update"), project.stored()), ((2, CANNOT), None))
+    stores("the next one makes it anew", project, "--update", status=0)
+
+
 def taken(project):
     """Beside a `state~` that is not its own nothing is stored, there or elsewhere."""
     os.makedirs(os.path.dirname(project.state), mode=0o700)
@@ -254,6 +263,7 @@ def main():
     settle()
     stays("an update that is not worth it", due[0], *NOWHERE)
     stores("one that is", due[1], *NOWHERE)
+    damaged(due[0])
     stores("a search outside of a repository updates a state", plain, *NOWHERE)
     stores("and makes an outdated one anew", gone, *NOWHERE)
     row("which knows nothing that is gone", os.path.getsize(gone.state) < 1000, True)

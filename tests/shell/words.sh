@@ -68,6 +68,7 @@ my @exceptions = map { /^\s*(\S+): (.+?): (.+?)\s*$/ ? [qr{^$1$}, qr/^(?:$2)$/, 
     crates/cs_trigram/.*|docs/ARCHITECTURE\.md: hits?: a cache has hits and misses
     crates/cs_(trigram/proofs/position|index/proofs/reading/bytes)/.*: front: a clause of std's split_at
     crates/cs_match/proofs/lanes/four_lanes/.*: front: a clause of std's split_at_mut
+    crates/cs_state/proofs/state_key/.*: front: a clause of std's as_chunks
     crates/codesearch/src/(disk|own_tree|progress|project|watched)\.rt: cell: std's type
 EXCEPTIONS
 @exceptions <= 20 or die "words.sh: more than twenty exceptions\n";

@@ -38,6 +38,7 @@ mod progress;
 mod project;
 mod project_state;
 mod running;
+mod secret;
 mod state_folder;
 mod streams;
 mod watched;

@@ -4,9 +4,10 @@ ghost use Rattle.std.specs.Prelude.{◌≡◌, ◌<◌, []};
 use crate::own_tree::OwnTree;
 use crate::part_file::PartFile;
 use crate::progress::{CountedTree, ProgressLine};
+use crate::secret::SecretFile;
 use crate::state_folder::{Project, StateFolder};
 use cs_learned::{ClosedState, StateKnowledge};
-use cs_state::StateFile;
+use cs_state::{StateFile, StateKey};
 use cs_storage::{
     DiskFolder, DiskIndex, IndexFolder, IndexUpdate, NewFile, StorageFault, begin_update,
     finish_update, replace_file,
@@ -45,6 +46,8 @@ struct FoundState {
     file: Option<DiskIndex>,
     /// Whether it is known what stood there when the run began.
     is_seen: bool,
+    /// The key of the user, if there is a secret.
+    key: Option<StateKey>,
 }
 
 impl FoundState {
@@ -56,6 +59,7 @@ impl FoundState {
                 storage,
                 file: None,
                 is_seen: false,
+                key: None,
             });
         }
         // What cannot be opened counts as none.
@@ -66,20 +70,27 @@ impl FoundState {
             storage,
             file: seen.unwrap_or(None),
             is_seen,
+            key: None,
         })
     }
 
-    /// Whether another run stores its own state there, or has stored it since this run began.
-    fn is_taken(&mut self, fault: StorageFault) -> bool {
-        fault == StorageFault::Locked || (self.is_seen && !self.storage.is_unchanged())
+    /// Why nothing can be stored there: `Locked` if another run stores its own state, or has stored
+    /// it since this run began.
+    fn cause_of(&mut self, fault: StorageFault) -> StorageFault {
+        if self.is_seen && !self.storage.is_unchanged() {
+            StorageFault::Locked
+        } else {
+            fault
+        }
     }
 
-    /// The file that was opened, once more and again.
+    /// The file that was opened, once more and again, if there is a key.
     fn closed(&self) -> Option<ClosedState<DiskIndex>> {
         let _opened = self.file.as_ref()?;
         Some(ClosedState {
             file: self.storage.open_again().ok()?,
             again: self.storage.open_again().ok()?,
+            key: self.key?,
         })
     }
 
@@ -145,12 +156,18 @@ impl FoundState {
         old: Option<ClosedState<DiskIndex>>,
         tree: &mut T,
     ) -> Result<(), StorageFault> {
+        let Some(key) = self.key else {
+            return Err(StorageFault::Failed);
+        };
         let part = self.home.part_path(rt.alloc())?;
-        begin_update(&mut self.storage)?;
+        if let Err(fault) = begin_update(&mut self.storage) {
+            return Err(self.cause_of(fault));
+        }
         let written = match self.storage.moment() {
             Some(moment) => {
                 let call = UpdateCall {
                     alloc: rt.alloc(),
+                    key,
                     root,
                     files,
                     moment,
@@ -186,7 +203,7 @@ fn write_update<T: Look, O: Output + Drop>(
 ) -> Result<(), UpdateFault>
     requires { O.given out ≡ [] }
 {
-    let Some(state) = StateFile::open(call.alloc, old.file)? else {
+    let Some(state) = StateFile::open(call.alloc, old.file, old.key)? else {
         return Err(UpdateFault::BadState);
     };
     let _out = update_state(call, state, old.again, tree, out)?;
@@ -221,9 +238,9 @@ fn write_first<T: Look, O: Output + Drop>(
     }
     let mut parts = StateParts::new(call.alloc);
     for (file, again) in stores {
-        parts.add(call.alloc, file, again)?;
+        parts.add(call.alloc, call.key, file, again)?;
     }
-    let _out = parts.join(call.alloc, out)?;
+    let _out = parts.join(call.alloc, call.key, call.moment, out)?;
     Ok(())
 }
 
@@ -264,6 +281,8 @@ pub(crate) struct DiskState {
     is_repository: bool,
     /// Where the state is, or where one may be made; the best first.
     found: Vec<FoundState>,
+    /// None without a folder for caches.
+    secret: Option<SecretFile>,
 }
 
 impl DiskState {
@@ -292,9 +311,16 @@ impl DiskState {
                 break;
             }
         }
-        let closed = match found.first() {
-            Some(state) => state.closed(),
+        let secret = match cache {
+            Some(cache) => Some(SecretFile::below(alloc, cache)?),
             None => None,
+        };
+        let closed = match found.first_mut() {
+            Some(state) if state.file.is_some() => {
+                state.key = secret.as_ref().and_then(|secret| secret.key(rt));
+                state.closed()
+            }
+            _ => None,
         };
         let is_at_root = root.as_str() == folder || (root.is_empty() && folder == "/");
         let known = StateKnowledge::new(alloc, root, closed);
@@ -302,33 +328,35 @@ impl DiskState {
             is_at_root,
             is_repository,
             found,
+            secret,
         };
         Ok((state, known))
     }
 
-    /// The length of the state that was opened, if there is one.
-    fn len(&self) -> Option<u64> {
-        let file = self.found.first()?.file.as_ref()?;
-        Some(file.len() as u64)
+    /// The state file that was opened.
+    fn file(&self) -> Option<&DiskIndex> {
+        self.found.first()?.file.as_ref()
     }
 
-    /// Whether the files that were not known are to be learned. Outside of a repository only
-    /// `--update` makes a first state.
+    /// Whether the files that were not known are to be learned. A damaged state counts as one
+    /// without bytes. Outside of a repository only `--update` makes a first one.
     fn is_due(&self, rt: &HostRuntime, known: &StateKnowledge<DiskIndex>) -> bool {
         let files = known.unknown();
         if known.is_update() {
             // A state that knows all stays.
             return !known.is_open() || !files.is_empty();
         }
-        match self.len() {
-            None if !self.is_repository => false,
-            len => is_due(files, len.unwrap_or(0), now(rt)),
-        }
+        let len = match self.file() {
+            Some(file) if known.is_open() => file.len() as u64,
+            None if !self.is_repository => return false,
+            _ => 0,
+        };
+        is_due(files, len, now(rt))
     }
 
     /// Learns the files that were not known, if that is due: a search so many that it ends soon. If
     /// the search has ended by itself, a state most of whose texts are no longer in the project is
-    /// made anew.
+    /// made anew. A search that can have no secret learns nothing.
     pub(crate) fn learn(
         &mut self,
         rt: &HostRuntime,
@@ -340,6 +368,16 @@ impl DiskState {
         if !is_outdated && !self.is_due(rt, known) {
             return Ok(());
         }
+        let Some(key) = self.secret.as_ref().and_then(|secret| secret.made_key(rt)) else {
+            return if known.is_update() {
+                Err(StorageFault::Failed)
+            } else {
+                Ok(())
+            };
+        };
+        for state in &mut self.found {
+            state.key = Some(key);
+        }
         let most = if known.is_update() { u64::MAX } else { BUDGET };
         let (files, rest) = unknown.split_at(batch_len(unknown, most));
         self.store(rt, known.root(), files, known.is_open() && !is_outdated)?;
@@ -347,8 +385,8 @@ impl DiskState {
         Ok(())
     }
 
-    /// Learns files, in the best folder that can be written to. Where another run stores what it
-    /// has learned, this one stores nothing (`Locked`).
+    /// Learns files, in the best folder that can be written to. Where there is a state that this
+    /// run cannot replace, or another run makes one, it stores nothing.
     fn store(
         &mut self,
         rt: &HostRuntime,
@@ -360,10 +398,9 @@ impl DiskState {
         for state in &mut self.found {
             stored = state.learn(rt, root, files, is_open);
             match stored {
-                Err(fault) if state.is_taken(fault) => return Err(StorageFault::Locked),
+                Ok(()) | Err(StorageFault::Locked) => return stored,
                 Err(_) if !state.home.is_empty(rt)? => return stored,
                 Err(_) => {}
-                Ok(()) => return Ok(()),
             }
         }
         stored

@@ -163,7 +163,7 @@ fn is_shared(there: &Metadata) -> bool {
 }
 
 /// What is at a path, if it is no link and the user's own.
-fn own_item(rt: &HostRuntime, path: &str, user: u32) -> Option<Metadata> {
+pub(crate) fn own_item(rt: &HostRuntime, path: &str, user: u32) -> Option<Metadata> {
     let there = fs::symlink_metadata(rt, path).ok()?;
     if there.uid() == user {
         Some(there)
@@ -178,7 +178,7 @@ fn is_own_folder(rt: &HostRuntime, path: &str, user: u32) -> bool {
 }
 
 /// Whether the user has a folder there that nobody else may write to, or nothing is there.
-fn is_free(rt: &HostRuntime, path: &str, user: u32) -> bool {
+pub(crate) fn is_free(rt: &HostRuntime, path: &str, user: u32) -> bool {
     match fs::symlink_metadata(rt, path) {
         Ok(there) => is_own_folder(rt, path, user) && !is_shared(&there),
         Err(_) => true,

@@ -22,8 +22,10 @@ use Rattle.cs_state.specs.declared.other_reader.OtherReader.{OtherReader}
 use Rattle.cs_state.specs.ProjectStates.{HasNumbers, IsOther, IsState, indexed_files}
 use Rattle.cs_state.specs.StateFile.{body_of, other_bytes, stamp_bytes}
 use Rattle.cs_state.specs.StateLengths.{HasForm}
-use Rattle.cs_state.specs.Sums.{sums_of}
+use Rattle.cs_state.specs.Sums.{seal_of, sums_of}
 use Rattle.cs_state.specs.WrittenForm.{lengths_of}
+use Rattle.cs_state.specs.declared.state_key.StateKey.{StateKey}
+use Rattle.cs_state.specs.declared.state_key.StateSeal.{StateSeal}
 use Rattle.cs_state.specs.declared.state_lengths.StateLengths.{StateLengths}
 use Rattle.cs_state.proofs.FormLemmas.{end, grouped, one_form, written_form}
 use Rattle.cs_state.proofs.OtherLemmas.{stamp_len}
@@ -89,25 +91,29 @@ some_stamp (stamp ∷ stamps) (suc id) within = some_stamp stamps id (omega (ari
 
 -- ---- a state
 
-module _ (bytes : List ℕ) (state : ProjectState) (is : IsState bytes state) where
+module _ {key : StateKey} (bytes : List ℕ) (state : ProjectState) (is : IsState key bytes state) where
   abbrev body : List ℕ
   body = body_of is.index is.stamps is.others
 
   abbrev own : StateLengths
   own = lengths_of is.index is.stamps is.others
 
-  pub own_lengths : (lengths : StateLengths) → HasForm bytes lengths → lengths ≡ own
-  own_lengths lengths form =
+  abbrev own_seal : StateSeal
+  own_seal = seal_of key is.moment
+
+  pub own_lengths : (seal : StateSeal) (lengths : StateLengths) → HasForm seal bytes lengths → lengths ≡ own
+  own_lengths seal lengths form =
       let short = is.short in
       let size = ap length is.bytes_are in
-      one_form bytes lengths own form (subst (λ b. HasForm b own) (sym is.bytes_are)
-      (written_form is.index is.stamps is.others (omega (arith, short, size))))
+      one_form bytes seal own_seal lengths own form (subst (λ b. HasForm own_seal b own) (sym is.bytes_are)
+      (written_form own_seal is.index is.stamps is.others (omega (arith, short, size))))
 
   abbrev tail : List ℕ
-  tail = sums_of body ++ end is.index is.stamps is.others
+  tail = sums_of own_seal body ++ end own_seal is.index is.stamps is.others
 
   begins : bytes ≡ body ++ tail
-  begins = is.bytes_are ∙ grouped is.index is.stamps is.others ∙ append_assoc body (sums_of body) (end is.index is.stamps is.others)
+  begins = is.bytes_are ∙ grouped own_seal is.index is.stamps is.others
+      ∙ append_assoc body (sums_of own_seal body) (end own_seal is.index is.stamps is.others)
 
   pub body_first : take (length body) bytes ≡ body
   body_first = ap (take (length body)) begins ∙ take-append_seam body tail
@@ -159,13 +165,13 @@ module _ (bytes : List ℕ) (state : ProjectState) (is : IsState bytes state) wh
 
 -- ---- a state that is open
 
-module _ (bytes : List ℕ) (state : ProjectState) (is : IsState bytes state) (model : Option (List ℕ)) (lengths : StateLengths)
+module _ {key : StateKey} (bytes : List ℕ) (state : ProjectState) (is : IsState key bytes state) (model : Option (List ℕ)) (lengths : StateLengths)
     (stored : StoredParts) (has : HasIndex bytes model lengths stored) where
   abbrev whole : List ℕ
   whole = body_of is.index is.stamps is.others
 
   same : lengths ≡ lengths_of is.index is.stamps is.others
-  same = own_lengths bytes state is lengths has.form
+  same = own_lengths bytes state is has.seal lengths has.form
 
   index_is : take lengths.index bytes ≡ is.index
   index_is = ap (λ (l : StateLengths). take l.index bytes) same ∙ index_first bytes state is

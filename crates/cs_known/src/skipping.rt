@@ -8,6 +8,7 @@ ghost use Rattle.cs_state.specs.OpenedStates.{HasIndex};
 ghost use Rattle.cs_state.specs.Others.{other_of};
 ghost use Rattle.cs_state.specs.ProjectStates.{IsState};
 ghost use Rattle.cs_state.specs.StateLengths.{AreWithin};
+ghost use Rattle.cs_state.specs.declared.state_key.StateKey.{StateKey};
 ghost use Rattle.cs_known.specs.KnownFiles.{AreOptions, IsFound, IsText, KeepsKnown, Knows};
 
 use crate::indexed::IndexedFiles;
@@ -31,17 +32,19 @@ impl<S: Store + Drop> StoredFiles<S> {
         file: S,
     ) -> Result<Option<StoredFiles<S>>, AllocError>
         requires within { AreWithin state.lengths }
-        ensures knows { (bytes : List ℕ) (known : ProjectState) → S.model file ≡ Some bytes →
+        ensures knows { (key : StateKey) (bytes : List ℕ) (known : ProjectState) → S.model file ≡ Some bytes →
             HasIndex bytes (⟦<FirstBytes<SummedBytes<S>> as Store>⟧.model state.bytes)
-            state.lengths state.index → IsState bytes known → IfOk result (λ found. IfSome found
+            state.lengths state.index → IsState key bytes known → IfOk result (λ found. IfSome found
             (Knows ⟦<FirstBytes<SummedBytes<S>> as Store>⟧.model ⟦<SummedBytes<S> as Store>⟧.model
             query.now known)) }
         ensures options { IfOk result (λ found. IfSome found (λ files. files.options ≡ options)) }
     {
+        let mut body = state.body(alloc, file);
         let StateFile {
             lengths,
             index,
             mut bytes,
+            ..
         } = state;
         let candidates = match index.candidates(alloc, &mut bytes, query) {
             Ok(Ok(candidates)) => candidates,
@@ -61,7 +64,6 @@ impl<S: Store + Drop> StoredFiles<S> {
             reader: OtherReader::new(alloc, middle, lengths.body as u32),
             next: None,
         };
-        let mut body = SummedBytes::new(alloc, file, lengths.body);
         others.read_next(alloc, &mut body)?;
         Ok(Some(KnownFiles {
             alloc,

@@ -21,14 +21,14 @@ AsksFor options query tree = (search : LineSearch) × IsQueryOf search tree.find
     × AreOptions tree.options (binary_as tree.binary false) options
 
 module _ {S : Type 0} (model : S → Option (List ℕ)) where
-  -- The file is a state that earlier runs learned below the folder, and still holds for the items and stamps of the tree.
+  -- The file is a state of the key that earlier runs learned below the folder, and still holds for the items and stamps of the tree.
   pub record IsLeftFor (root : List ℕ) (tree : SearchedTree) (closed : ClosedState S) : Type 0 where
     pub bytes : List ℕ
     pub state : ProjectState
     pub runs : List Run
     pub file : model closed.file ≡ Some bytes
     pub again : model closed.again ≡ Some bytes
-    pub is_state : IsState bytes state
+    pub is_state : IsState closed.key bytes state
     pub holds : StillHolds runs state (view_below root tree.items tree.stamps)
 
   abbrev pub IsPreparedFor : List ℕ → SearchedTree → PreparedState S → Type 0

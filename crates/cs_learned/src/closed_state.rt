@@ -2,6 +2,7 @@
 // `specs/ClosedStates.antt` cites them.
 
 use cs_known::SkipOptions;
+use cs_state::StateKey;
 use cs_trigram::Query;
 
 /// A state file that is not read yet.
@@ -10,6 +11,8 @@ pub struct ClosedState<S> {
     pub file: S,
     /// The same file again.
     pub again: S,
+    /// The key of the user.
+    pub key: StateKey,
 }
 
 /// A state file that is not read yet, and the search that asks for it.

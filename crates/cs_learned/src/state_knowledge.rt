@@ -226,7 +226,7 @@ fn open_files<S: Store + Drop>(
         options,
         query,
     } = prepared;
-    match StateFile::open(alloc, closed.file) {
+    match StateFile::open(alloc, closed.file, closed.key) {
         Ok(Some(state)) => StoredFiles::open(alloc, options, &query, state, closed.again),
         Err(IoFault::Memory) => Err(AllocError),
         _ => Ok(None),

@@ -49,15 +49,6 @@ list_begun snapshot now call request scope end given later same is ends has = in
 pub none_begun : (snapshot : Option Snapshot) (P : TreeItems → Type 0) (given : List ℕ) → InTree snapshot (λ items. (given ≡ given) ⊎ P items)
 none_begun snapshot P given = in_any snapshot (λ items. (given ≡ given) ⊎ P items) (λ items. inl refl)
 
-pub unsearched : (Knows : FileSearch → Type 0) (snapshot : Option Snapshot) (model : Option SourceModel) (call : ProjectCall) (request : Request)
-    (silent : Bool) (given : List ℕ) → InTree snapshot (λ items. BeginsFor Knows items model call request silent given given)
-unsearched Knows snapshot model call request silent given =
-    in_any snapshot (λ items. BeginsFor Knows items model call request silent given given) (λ items. by_silent items silent)
-  where
-    by_silent : (items : TreeItems) (silent : Bool) → BeginsFor Knows items model call request silent given given
-    by_silent items true = refl
-    by_silent items false = inl refl
-
 -- ---- what is known
 
 -- what is said if more is known

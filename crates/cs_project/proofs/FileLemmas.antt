@@ -1,5 +1,5 @@
 -- A file of the tree.
-use Rattle.std.proofs.Common.{◌≡◌, ◌≤◌, ℕ, ◌^◌, Bool, true, false, ◌&&◌, ◌||◌, nat_lt, List, [], ◌∷◌, ◌++◌, length, Option, Some, None, Result, Ok, Err, inl, inr, refl, sym, ap, subst, ◌∙◌, arith}
+use Rattle.std.proofs.Common.{Bor, ◌≡◌, ◌≤◌, ℕ, ◌^◌, Bool, true, false, ◌&&◌, ◌||◌, nat_lt, List, [], ◌∷◌, ◌++◌, length, Option, Some, None, Ok, Err, inl, inr, refl, sym, ap, subst, ◌∙◌, arith}
 use Rattle.std.specs.Prelude.{◌⊎◌, is_ok}
 use Rattle.std.proofs.lemmas.Bool.{false≢true}
 use Rattle.std.proofs.lemmas.Bool.Decides.{nat_tests}
@@ -11,9 +11,8 @@ use Rattle.cs_tree.specs.TreeReaders.{open_model}
 use Rattle.cs_tree.specs.declared.fault.TreeFault.{TreeFault}
 use Rattle.cs_tree.specs.declared.fault.TreeFault.TheVariants.{Missing, Memory}
 use Rattle.cs_listing.specs.FolderReads.{InTree}
-use Rattle.cs_lines.specs.Findings.{Finding, IsFoundBy, has_stopped}
-use Rattle.cs_lines.specs.Printed.{item_bytes}
-use Rattle.cs_lines.specs.Project.{ItemShown, shown_as, searched_as, text_shown}
+use Rattle.cs_lines.specs.Findings.{Finding}
+use Rattle.cs_lines.specs.Project.{ItemShown, text_shown}
 use Rattle.cs_lines.specs.Shown.{between, following}
 use Rattle.cs_lines.specs.Streamed.{ReadsToEnd, is_whole}
 use Rattle.cs_lines.specs.Streams.{BeginsFile, FindsInFile, PrintsFile}
@@ -24,9 +23,9 @@ use Rattle.cs_lines.specs.declared.stream.Streamed.{Streamed}
 use Rattle.cs_project.specs.Reports.{MayReport}
 use Rattle.cs_project.specs.Scopes.{InInput, source_item}
 use Rattle.cs_project.specs.Searched.{NamedItem, binary_as, is_cut, item_groups, shown_of}
-use Rattle.cs_project.specs.Visits.{BeginsItems, FindsAmong, ShowsItems, may_cut}
+use Rattle.cs_project.specs.Visits.{BeginsItems, ShowsItems, may_cut}
 use Rattle.cs_project.specs.declared.file_search.FileSearch.{FileSearch}
-use Rattle.cs_project.proofs.TextLemmas.{nothing_printed, one_begun, one_printed, shows_nothing}
+use Rattle.cs_project.proofs.TextLemmas.{one_begun, one_printed, or_false, shows_nothing}
 
 -- ---- a source
 
@@ -46,52 +45,47 @@ cut_by bytes ends whole reads part = by_size (nat_lt (2 ^ 62) (length bytes)) re
     by_size true e = refl
     by_size false e = let low : length bytes ≤ 2 ^ 62 = grind (arith, nat_tests, e) in absurd (false≢true (sym part ∙ reads refl low))
 
--- a page for a search, whose name, options and kind are these
-module _ (old new : FileSearch) (page : Page) (name : List ℕ) (named : Bool) (binaries : BinaryFiles) (chosen : binaries ≡ binary_as old.binary named)
-    (options : page.options.now ≡ old.options) (at : page.name.now ≡ name) where
-  shown_for : (source : SourceModel) (finding : Finding) →
-      shown_as page.options.now finding page.name.now (searched_as binaries source.bytes) source.bytes
-      ≡ shown_of old.options old.binary finding (name, source_item source, named)
-  shown_for source finding = ap (λ o. text_shown o finding page.name.now binaries source.bytes) options
-      ∙ ap (λ n. text_shown old.options finding n binaries source.bytes) at
-      ∙ ap (λ k. text_shown old.options finding name k source.bytes) chosen
-      ∙ shown_by old.options finding (binary_as old.binary named) name source.bytes source.ending
+-- how a search prints a source; the clauses of `print_file` are about what the references point at
+abbrev pub page_of : FileSearch → Bor (List ℕ) → Page
+page_of search name = record { options = record { ref_ptr = (0, 0); now = search.options }; name = name; begun = search.marked }
 
-  all_for : (source : SourceModel) (finding : Finding) (given : List ℕ) → page.begun ≡ old.marked →
-      given ++ item_bytes page (shown_as page.options.now finding page.name.now (searched_as binaries source.bytes) source.bytes)
-      ≡ given ++ following (between old.options) old.marked (shown_of old.options old.binary finding (name, source_item source, named)).groups
-  all_for source finding given begun =
-      let shown = shown_as page.options.now finding page.name.now (searched_as binaries source.bytes) source.bytes in
-      ap (λ o. given ++ following (between o) page.begun shown.groups) options
-      ∙ ap (λ b. given ++ following (between old.options) b shown.groups) begun
-      ∙ ap (λ (s : ItemShown). given ++ following (between old.options) old.marked s.groups) (shown_for source finding)
+module _ (old new : FileSearch) (name : Bor (List ℕ)) (named : Bool) (binaries : BinaryFiles) (chosen : binaries ≡ binary_as old.binary named)
+    (given later : List ℕ) where
+  shown_for : (source : SourceModel) (finding : Finding) →
+      text_shown old.options finding name.now binaries source.bytes ≡ shown_of old.options old.binary finding (name.now, source_item source, named)
+  shown_for source finding = ap (λ k. text_shown old.options finding name.now k source.bytes) chosen
+      ∙ shown_by old.options finding (binary_as old.binary named) name.now source.bytes source.ending
+
+  all_for : (source : SourceModel) (finding : Finding) →
+      given ++ following (between old.options) old.marked (text_shown old.options finding name.now binaries source.bytes).groups
+      ≡ given ++ following (between old.options) old.marked (shown_of old.options old.binary finding (name.now, source_item source, named)).groups
+  all_for source finding = ap (λ (s : ItemShown). given ++ following (between old.options) old.marked s.groups) (shown_for source finding)
 
   -- it was read to its end, or as far as it matters
-  pub source_shown : (model : Option SourceModel) (given later : List ℕ) (streamed : Streamed) →
-      PrintsFile old.search new.search page binaries model given later streamed → page.begun ≡ old.marked →
+  pub source_shown : (model : Option SourceModel) (streamed : Streamed) →
+      PrintsFile old.search new.search (page_of old name) binaries model given later streamed →
       new.marked ≡ (old.marked || streamed.marked) → is_whole streamed.ended ≡ true →
-      InInput model (λ item. ShowsItems old new ((name, item, named) ∷ []) given later)
-  source_shown None given later streamed prints begun marks whole = tt
-  source_shown (Some source) given later streamed prints begun marks whole = λ running finding found.
+      InInput model (λ item. ShowsItems old new ((name.now, item, named) ∷ []) given later)
+  source_shown None streamed prints marks whole = tt
+  source_shown (Some source) streamed prints marks whole = λ running finding found.
       let p = prints whole running finding found in
-      one_printed old.options old.binary finding (may_cut new) (name, source_item source, named) old.marked new.marked given later (inl (
-        p.0 ∙ all_for source finding given begun,
+      one_printed old.options old.binary finding (may_cut new) (name.now, source_item source, named) old.marked new.marked given later (inl (
+        p.0 ∙ all_for source finding,
         marks ∙ ap (λ m. old.marked || m) (p.1 ∙ ap (λ (s : ItemShown). s.marked) (shown_for source finding)),
       ))
 
   -- it was not, and this was reported
-  pub source_cut : (model : Option SourceModel) (given later : List ℕ) (streamed : Streamed) →
-      BeginsFile old.search new.search page binaries model given later → FindsInFile old.search new.search page binaries model streamed →
-      ReadsToEnd (2 ^ 62) model streamed.ended → page.begun ≡ old.marked → new.marked ≡ (old.marked || streamed.marked) →
-      is_whole streamed.ended ≡ false → new.reports.wrong ≡ true →
-      InInput model (λ item. ShowsItems old new ((name, item, named) ∷ []) given later)
-  source_cut None given later streamed begins finds reads begun marks part wrong = tt
-  source_cut (Some source) given later streamed begins finds reads begun marks part wrong = λ running finding found.
+  pub source_cut : (model : Option SourceModel) (streamed : Streamed) →
+      BeginsFile old.search new.search (page_of old name) binaries model given later →
+      FindsInFile old.search new.search (page_of old name) binaries model streamed → ReadsToEnd (2 ^ 62) model streamed.ended →
+      new.marked ≡ (old.marked || streamed.marked) → is_whole streamed.ended ≡ false → new.reports.wrong ≡ true →
+      InInput model (λ item. ShowsItems old new ((name.now, item, named) ∷ []) given later)
+  source_cut None streamed begins finds reads marks part wrong = tt
+  source_cut (Some source) streamed begins finds reads marks part wrong = λ running finding found.
       let p = begins running finding found in
-      let shown = shown_of old.options old.binary finding (name, source_item source, named) in
-      one_printed old.options old.binary finding (may_cut new) (name, source_item source, named) old.marked new.marked given later (inr (
+      one_printed old.options old.binary finding (may_cut new) (name.now, source_item source, named) old.marked new.marked given later (inr (
         ap (λ w. w && is_cut (source_item source)) wrong ∙ cut_by source.bytes source.ending (is_whole streamed.ended) reads part,
-        (p.0, sym (all_for source finding given begun) ∙ p.1),
+        (p.0, sym (all_for source finding) ∙ p.1),
         by_mark streamed.marked marks (λ is. ap (λ (s : ItemShown). s.marked) (sym (shown_for source finding)) ∙ finds running finding found is),
       ))
     where
@@ -99,19 +93,15 @@ module _ (old new : FileSearch) (page : Page) (name : List ℕ) (named : Bool) (
           (new.marked ≡ old.marked) ⊎ (new.marked ≡ (old.marked || all))
       by_mark true e is = inr (e ∙ ap (λ m. old.marked || m) (sym (is refl)))
       by_mark false e is = inl (e ∙ or_false old.marked)
-        where
-          or_false : (b : Bool) → (b || false) ≡ b
-          or_false true = refl
-          or_false false = refl
 
   -- also after an error
-  pub source_begun : (model : Option SourceModel) (given later : List ℕ) → BeginsFile old.search new.search page binaries model given later →
-      page.begun ≡ old.marked → InInput model (λ item. BeginsItems old new ((name, item, named) ∷ []) given later)
-  source_begun None given later begins begun = tt
-  source_begun (Some source) given later begins begun = λ running finding found.
+  pub source_begun : (model : Option SourceModel) → BeginsFile old.search new.search (page_of old name) binaries model given later →
+      InInput model (λ item. BeginsItems old new ((name.now, item, named) ∷ []) given later)
+  source_begun None begins = tt
+  source_begun (Some source) begins = λ running finding found.
       let p = begins running finding found in
-      one_begun old.options old.binary finding (may_cut new) (name, source_item source, named) old.marked given later
-      (p.0, sym (all_for source finding given begun) ∙ p.1)
+      one_begun old.options old.binary finding (may_cut new) (name.now, source_item source, named) old.marked given later
+      (p.0, sym (all_for source finding) ∙ p.1)
 
 -- ---- the item at a path
 

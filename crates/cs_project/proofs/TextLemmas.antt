@@ -13,6 +13,10 @@ use Rattle.cs_project.specs.Visits.{BeginsItems, KeepsForm, ShowsItems, may_cut}
 use Rattle.cs_project.specs.declared.file_search.FileSearch.{FileSearch}
 use Rattle.cs_project.proofs.SearchLemmas.{still_found}
 
+pub or_false : (b : Bool) → (b || false) ≡ b
+or_false true = refl
+or_false false = refl
+
 module _ (options : ShowOptions) (binary : Bool) (finding : Finding) where
   -- ---- one item
 
@@ -32,10 +36,6 @@ module _ (options : ShowOptions) (binary : Bool) (finding : Finding) where
     sym (append-nil given) ∙ ap (λ (s : ItemShown). given ++ following (between options) marked s.groups) (sym none),
     same ∙ sym (or_false marked) ∙ ap (λ (s : ItemShown). marked || s.marked) (sym none),
   ))
-    where
-      or_false : (b : Bool) → (b || false) ≡ b
-      or_false true = refl
-      or_false false = refl
 
   pub one_begun : (cuts : Item → Bool) (item : NamedItem) (marked : Bool) (given later : List ℕ) →
       Begins later (given ++ following (between options) marked (shown_of options binary finding item).groups) →

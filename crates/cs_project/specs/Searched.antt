@@ -55,8 +55,8 @@ is_cut (cut text) = true
 is_cut _ = false
 
 module _ (options : ShowOptions) (binary : Bool) (finding : Finding) (cuts : Item → Bool) where
-  -- What is printed for an item was printed, or a beginning of it, if the item is one that may be cut. A line of an earlier item is
-  -- marked, or none, and `next` says this after the item.
+  -- What is printed for an item was printed, or, of one that may be cut, a beginning of it. A line of an earlier item is marked, or
+  -- none; `next` says the same after this item.
   abbrev pub PrintsOne : NamedItem → Bool → Bool → List ℕ → List ℕ → Type 0
   PrintsOne item marked next given later =
       let shown = shown_of options binary finding item in

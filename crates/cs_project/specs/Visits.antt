@@ -74,8 +74,8 @@ BeginsItems old new items given later = has_stopped new.search ≡ false → (fi
 abbrev pub is_done : FileSearch → Bool
 is_done search = search.quick && search.marked
 
--- The search is for the same, in the same form, and an error that was reported stays reported. All matches of each line are found
--- if the form does not show them.
+-- The search is for the same, in the same form, and an error that was reported stays reported. No line uses up its budget if the form
+-- shows no matches.
 abbrev pub KeepsForm : FileSearch → FileSearch → Type 0
 KeepsForm old new = (new.options ≡ old.options) × (new.binary ≡ old.binary) × KeepsSearch old.search new.search
     × (new.reports.wrong ≡ false → old.reports.wrong ≡ false) × (new.quick ≡ old.quick)

@@ -112,7 +112,7 @@ impl<'p> FileSearch<'p> {
 
     /// Searches the file at a path, and prints what is to be printed for it. For a file that is
     /// gone, and for the one that the output goes to, nothing is printed.
-    #[tactic(auto, using(crate::proofs::PrintLemmas::printing, crate::proofs::FileLemmas::path_refused, crate::proofs::FileLemmas::path_unbegun))]
+    #[tactic(auto, using(crate::proofs::PrintLemmas::printing, crate::proofs::FileLemmas::path_refused))]
     pub fn show_file<T: Tree, O: Sink, E: Sink>(
         &mut self,
         tree: &mut T,
@@ -173,7 +173,7 @@ impl<'p> FileSearch<'p> {
 
     /// The same for a file that a word names. One that is gone is reported, and one that is binary
     /// is searched.
-    #[tactic(auto, using(crate::proofs::PrintLemmas::printing, crate::proofs::FileLemmas::path_missing, crate::proofs::FileLemmas::path_refused, crate::proofs::FileLemmas::path_unbegun))]
+    #[tactic(auto, using(crate::proofs::PrintLemmas::printing, crate::proofs::FileLemmas::path_missing, crate::proofs::FileLemmas::path_refused))]
     pub(crate) fn show_named<T: Tree, O: Sink, E: Sink>(
         &mut self,
         tree: &mut T,

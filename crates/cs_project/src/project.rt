@@ -93,7 +93,7 @@ pub(crate) fn for_names(options: ShowOptions) -> ShowOptions
 
 impl<'a> Scope<'a> {
     /// Searches the items of the scope, and returns the exit status: 2 after an error, or if not
-    /// all matches of a line were found; else 0 if a line is marked, or else 1.
+    /// all matches of a line were found (`has_stopped`); else 0 if a line is marked, or else 1.
     #[tactic(auto, using(crate::proofs::PrintLemmas::printing, crate::proofs::NotedLemmas::notes_more))]
     pub fn search_project<T: Look, R: Source, K: Knowledge, O: Sink, E: Sink>(
         &self,

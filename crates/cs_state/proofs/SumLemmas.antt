@@ -1,72 +1,137 @@
--- Sums of pieces, word by word.
-use Rattle.std.proofs.Common.{◌≡◌, ◌≤◌, ◌<◌, ℕ, zero, suc, ◌+◌, ◌-◌, ◌*◌, min, bytes_eq, Bool, not, true, false, List, [], ◌∷◌, ◌++◌, append-nil, append_assoc, length, take, drop, get_or, fold, refl, sym, ap, ◌∙◌, arith}
-use Rattle.std.proofs.lemmas.List.{take_all, length-append, length-drop, take-append-le, drop-append-le}
-use Rattle.std.specs.Int.{from_be_bytes, w64}
+-- Sums of pieces.
+use Rattle.std.proofs.Common.{◌≡◌, ◌≤◌, ◌<◌, ℕ, zero, suc, ◌+◌, ◌-◌, ◌*◌, ◌/◌, ◌%◌, List, [], ◌∷◌, ◌++◌, append_assoc, length, take, drop, map, fold, min, bytes_eq, Bool, eqb, not, true, false, refl, sym, ap, ◌∙◌, arith}
+use Rattle.std.specs.Int.{div_ceil, from_le_bytes, w64}
+use Rattle.std.specs.Simd.{first_chunks}
+use Rattle.std.proofs.lemmas.Bool.{false≢true}
+use Rattle.std.proofs.lemmas.List.{drop-append-le, drop-drop, drop_at, length-append, length-drop, map_push, take-append-le, take_all}
+use Rattle.std.proofs.lemmas.List.Sums.{fold_push}
 use Rattle.std.proofs.lemmas.Slice.Eq.{bytes_eq-Decides}
 use Rattle.cs_tree.specs.Store.{part_of}
-use Rattle.cs_state.specs.Sums.{HasSum, piece_at, piece_count, piece_len, sum_at, sum_bytes, sums_of, sums_within, with_word, words_of}
+use Rattle.cs_state.specs.Sums.{IsTested, hash_of, piece_count, piece_len, piece_of, sum_at, sum_of, sums_of, sums_within, with_word}
+use Rattle.cs_state.specs.declared.state_key.StateKey.{StateKey}
+use Rattle.cs_state.specs.declared.state_key.StateSeal.{StateSeal}
 use Rattle.cs_state.proofs.StoreLemmas.{part_within_first}
 
--- the number of the first eight bytes
-abbrev first_word : List ℕ → ℕ
-first_word xs = from_be_bytes w64 (get_or xs 0 0 ∷ get_or xs 1 0 ∷ get_or xs 2 0 ∷ get_or xs 3 0 ∷ get_or xs 4 0 ∷ get_or xs 5 0
-    ∷ get_or xs 6 0 ∷ get_or xs 7 0 ∷ [])
-
-words_step : (xs : List ℕ) → 8 ≤ length xs → words_of xs ≡ first_word xs ∷ words_of (drop 8 xs)
-unfolding words_of
-words_step (a ∷ b ∷ c ∷ d ∷ e ∷ f ∷ g ∷ h ∷ rest) long = refl
-words_step _ long = absurd (omega (arith, long))
-
-pub words_left : (xs : List ℕ) → length xs < 8 → words_of xs ≡ xs
-unfolding words_of
-words_left (a ∷ b ∷ c ∷ d ∷ e ∷ f ∷ g ∷ h ∷ rest) short = absurd (omega (arith, short))
-words_left _ short = refl
-
--- one word more
-pub sum_step : (sum next word n all : ℕ) (rest : List ℕ) → 8 ≤ length rest → n ≡ length rest - 8 → next ≡ with_word sum word →
-    word ≡ first_word rest → fold with_word sum (words_of rest) ≡ all → fold with_word next (words_of (take n (drop 8 rest))) ≡ all
-sum_step sum next word n all rest long size step is before =
-    let d = length-drop 8 rest in
-    ap (λ xs. fold with_word next (words_of xs)) (take_all n (drop 8 rest) (omega (arith, size, d)))
-    ∙ ap (λ m. fold with_word m (words_of (drop 8 rest))) (step ∙ ap (with_word sum) is)
-    ∙ ap (fold with_word sum) (sym (words_step rest long)) ∙ before
+pub some_items : (n : ℕ) → eqb n 0 ≡ false → 0 < n
+some_items zero h = absurd (false≢true (sym h))
+some_items (suc n) h = omega arith
 
 pub not_false : (b : Bool) → not b ≡ false → b ≡ true
 not_false true h = refl
 not_false false h = sym h
 
+-- one chunk more
+chunks_more : (n k : ℕ) (xs : List ℕ) → first_chunks n (suc k) xs ≡ first_chunks n k xs ++ take n (drop (k * n) xs) ∷ []
+chunks_more n zero xs = let none : 0 ≡ 0 * n = omega arith in ap (λ m. take n (drop m xs) ∷ []) none
+chunks_more n (suc k) xs =
+    let at : n + k * n ≡ suc k * n = omega arith in
+    ap (λ (l : List (List ℕ)). take n xs ∷ l) (chunks_more n k (drop n xs))
+    ∙ ap (λ (l : List ℕ). take n xs ∷ (first_chunks n k (drop n xs) ++ take n l ∷ [])) (drop-drop (k * n) n xs ∙ ap (λ m. drop m xs) at)
+
+module _ (key : StateKey) (piece : List ℕ) where
+  abbrev whole : ℕ
+  whole = length piece / 8
+
+  abbrev hashed : ℕ
+  hashed = fold (with_word key) key.first (map (from_le_bytes w64) (first_chunks 8 whole piece))
+
+  pub all_hashed : (words : List (List ℕ)) (n hash : ℕ) → length words ≤ n → words ≡ first_chunks 8 whole piece →
+      hash ≡ fold (with_word key) key.first (map (from_le_bytes w64) (take n words)) → hash ≡ hashed
+  all_hashed words n hash all is so_far =
+      so_far ∙ ap (λ (l : List (List ℕ)). fold (with_word key) key.first (map (from_le_bytes w64) l)) (take_all n words all ∙ is)
+
+  -- a piece of whole words
+  pub hash_whole : length piece % 8 ≡ 0 → hashed ≡ hash_of key piece
+  unfolding hash_of
+  hash_whole none =
+      let count : whole ≡ div_ceil (length piece) 8 = omega (arith, none) in
+      ap (λ n. fold (with_word key) key.first (map (from_le_bytes w64) (first_chunks 8 n piece))) count
+
+  -- one with a rest
+  pub hash_rest : (rest : List ℕ) → rest ≡ drop (whole * 8) piece → 0 < length rest →
+      with_word key hashed (from_le_bytes w64 rest) ≡ hash_of key piece
+  unfolding hash_of
+  hash_rest rest is some =
+      let size = ap length is ∙ length-drop (whole * 8) piece in
+      let count : suc whole ≡ div_ceil (length piece) 8 = omega (arith, size, some) in
+      let last : take 8 (drop (whole * 8) piece) ≡ rest = ap (take 8) (sym is) ∙ take_all 8 rest (omega (arith, size)) in
+      let words = chunks_more 8 whole piece ∙ ap (λ (l : List ℕ). first_chunks 8 whole piece ++ l ∷ []) last in
+      sym (fold_push (with_word key) key.first (map (from_le_bytes w64) (first_chunks 8 whole piece)) (from_le_bytes w64 rest))
+      ∙ ap (fold (with_word key) key.first) (sym (map_push (from_le_bytes w64) (first_chunks 8 whole piece) rest)
+      ∙ ap (map (from_le_bytes w64)) (sym words ∙ ap (λ n. first_chunks 8 n piece) count))
+
+-- ---- the sums of a state
+
+sum_len : (seal : StateSeal) (number : ℕ) (is_last : Bool) (piece : List ℕ) → length (sum_of seal number is_last piece) ≡ 8
+unfolding sum_of
+sum_len seal number is_last piece = refl
+
+pub sums_len : (seal : StateSeal) (bytes : List ℕ) (count : ℕ) → length (sums_within seal bytes count) ≡ 8 * count
+sums_len seal bytes zero = refl
+sums_len seal bytes (suc count) =
+    let a = length-append (sums_within seal bytes count) (sum_of seal count false (piece_of bytes count)) in
+    let s = sum_len seal count false (piece_of bytes count) in
+    let less = sums_len seal bytes count in
+    omega (arith, a, s, less)
+
+-- a whole piece does not depend on what follows
+piece_within : (bytes more : List ℕ) (number : ℕ) → piece_len * suc number ≤ length bytes → piece_of (bytes ++ more) number ≡ piece_of bytes number
+unfolding piece_of
+piece_within bytes more number within =
+    let at = piece_len * number in
+    let d = length-drop at bytes in
+    ap (take piece_len) (drop-append-le at bytes more (omega (arith, within)))
+    ∙ take-append-le piece_len (drop at bytes) more (omega (arith, d, within))
+
+pub sums_more : (seal : StateSeal) (bytes more : List ℕ) (count : ℕ) → piece_len * count ≤ length bytes →
+    sums_within seal (bytes ++ more) count ≡ sums_within seal bytes count
+sums_more seal bytes more zero within = refl
+sums_more seal bytes more (suc count) within = λ i.
+    sums_more seal bytes more count (omega (arith, within)) i ++ sum_of seal count false (piece_within bytes more count within i)
+
+-- the piece after whole ones
+piece_after : (sent piece : List ℕ) (count : ℕ) → length sent ≡ piece_len * count → length piece ≤ piece_len → piece_of (sent ++ piece) count ≡ piece
+unfolding piece_of
+piece_after sent piece count size short = ap (take piece_len) (drop_at sent piece (piece_len * count) size) ∙ take_all piece_len piece short
+
+module _ (seal : StateSeal) (sent : List ℕ) (count : ℕ) (size : length sent ≡ piece_len * count) where
+  pub sums_whole : sums_of seal sent ≡ sums_within seal sent count
+  unfolding sums_of
+  sums_whole =
+      let n : piece_count (length sent) ≡ count = omega (arith, size) in
+      ap (sums_within seal sent) n
+
+  sums_push : (piece : List ℕ) → 0 < length piece → length piece ≤ piece_len →
+      sums_of seal (sent ++ piece) ≡ sums_within seal sent count ++ sum_of seal count false piece
+  unfolding sums_of
+  sums_push piece some short =
+      let e = length-append sent piece in
+      let n : piece_count (length (sent ++ piece)) ≡ suc count = omega (arith, e, size, some, short) in
+      ap (sums_within seal (sent ++ piece)) n
+      ∙ (λ i. sums_more seal sent piece count (omega (arith, size)) i ++ sum_of seal count false (piece_after sent piece count size short i))
+
+  pub sums_sent : (piece sums new sum : List ℕ) (number : ℕ) → 0 < length piece → length piece ≤ piece_len → sums ≡ sums_within seal sent count →
+      new ≡ sums ++ sum → sum ≡ sum_of seal number false piece → number ≡ count → new ≡ sums_of seal (sent ++ piece)
+  sums_sent piece sums new sum number some short before grown is at =
+      grown ∙ (λ i. before i ++ (is ∙ ap (λ n. sum_of seal n false piece) at) i) ∙ sym (sums_push piece some short)
+
+pub all_sums_len : (seal : StateSeal) (bytes : List ℕ) → length (sums_of seal bytes) ≡ 8 * piece_count (length bytes)
+unfolding sums_of
+all_sums_len seal bytes = sums_len seal bytes (piece_count (length bytes))
+
+pub regrouped : (before a b c d : List ℕ) → (((before ++ a) ++ b) ++ c) ++ d ≡ before ++ (((a ++ b) ++ c) ++ d)
+regrouped before a b c d = simp append_assoc
+
+-- ---- the sums that are read
+
 -- a piece whose sum was compared
-pub has_sum : (bytes piece stored : List ℕ) (len number : ℕ) → piece ≡ part_of bytes (number * piece_len) (min piece_len (len - number * piece_len)) →
-    stored ≡ part_of bytes (len + 8 * number) 8 → bytes_eq stored (sum_bytes piece) ≡ true → HasSum bytes len number
-unfolding sum_at piece_at
-has_sum bytes piece stored len number is there same =
+pub is_tested : (seal : StateSeal) (bytes piece sum : List ℕ) (len number : ℕ) →
+    piece ≡ part_of bytes (number * piece_len) (min piece_len (len - number * piece_len)) → sum ≡ part_of bytes (len + 8 * number) 8 →
+    bytes_eq sum (sum_of seal number false piece) ≡ true → IsTested seal bytes len number piece
+unfolding sum_at piece_of
+is_tested seal bytes piece sum len number is there same =
     let e : number * piece_len ≡ piece_len * number = omega arith in
-    sym there ∙ (bytes_eq-Decides stored (sum_bytes piece)).0 same
-    ∙ ap sum_bytes (is ∙ part_within_first len (number * piece_len) piece_len bytes ∙ ap (λ at. part_of (take len bytes) at piece_len) e)
-
--- one piece more
-pub sums_push : (n : ℕ) (bytes piece : List ℕ) → length bytes ≡ piece_len * n → length piece ≤ piece_len →
-    sums_within (suc n) (bytes ++ piece) ≡ sums_within n bytes ++ sum_bytes piece
-sums_push zero [] piece size short = append-nil (sum_bytes (take piece_len piece)) ∙ ap sum_bytes (take_all piece_len piece short)
-sums_push zero (b ∷ bytes) piece size short = absurd (omega (arith, size))
-sums_push (suc n) bytes piece size short =
-    let long : piece_len ≤ length bytes = omega (arith, size) in
-    let d = length-drop piece_len bytes in
-    (λ i. sum_bytes (take-append-le piece_len bytes piece long i) ++ sums_within (suc n) (drop-append-le piece_len bytes piece long i))
-    ∙ ap (λ xs. sum_bytes (take piece_len bytes) ++ xs) (sums_push n (drop piece_len bytes) piece (omega (arith, d, size)) short)
-    ∙ sym (append_assoc (sum_bytes (take piece_len bytes)) (sums_within n (drop piece_len bytes)) (sum_bytes piece))
-
--- whole pieces, and what follows them
-pub sums_whole : (n : ℕ) (sent : List ℕ) → length sent ≡ piece_len * n → sums_of (sent ++ []) ≡ sums_within n sent
-unfolding sums_of
-sums_whole n sent size =
-    let count : piece_count (length sent) ≡ n = omega (arith, size) in
-    (λ i. sums_within (piece_count (length (append-nil sent i))) (append-nil sent i)) ∙ ap (λ k. sums_within k sent) count
-
-pub sums_last : (n : ℕ) (sent piece : List ℕ) → length sent ≡ piece_len * n → 0 < length piece → length piece ≤ piece_len →
-    sums_of (sent ++ piece) ≡ sums_within n sent ++ sum_bytes piece
-unfolding sums_of
-sums_last n sent piece size some short =
-    let e = length-append sent piece in
-    let count : piece_count (length (sent ++ piece)) ≡ suc n = omega (arith, e, size, some, short) in
-    ap (λ k. sums_within k (sent ++ piece)) count ∙ sums_push n sent piece size short
+    let at = is ∙ part_within_first len (number * piece_len) piece_len bytes ∙ ap (λ n. part_of (take len bytes) n piece_len) e in (
+      at,
+      sym there ∙ (bytes_eq-Decides sum (sum_of seal number false piece)).0 same ∙ ap (sum_of seal number false) at,
+    )

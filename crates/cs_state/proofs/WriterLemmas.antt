@@ -1,16 +1,14 @@
 -- What a writer of a state has written.
-use Rattle.std.proofs.Common.{◌≡◌, ◌∙◌, ℕ, List, [], ◌∷◌, ◌++◌, append-nil, append_assoc, ap, sym, min, length, arith, ◌+◌, ◌<◌, zero, suc, eqb, false, cond, refl, Result, Ok, Err}
+use Rattle.std.proofs.Common.{◌≡◌, ◌∙◌, ℕ, List, [], ◌∷◌, ◌++◌, append-nil, append_assoc, ap, sym, min, length, arith, ◌+◌, ◌<◌, refl, Result, Ok, Err}
 use Rattle.std.specs.Prelude.{OnOk}
 use Rattle.std.specs.List.{flat_map}
-use Rattle.std.specs.Result.{is_ok}
-use Rattle.std.proofs.lemmas.Bool.{false≢true}
 use Rattle.std.proofs.lemmas.List.{flat_map_more, length-append}
 use Rattle.cs_tree.specs.declared.tree.Stamp.{Stamp}
 use Rattle.cs_state.specs.Known.{Known}
-use Rattle.cs_state.specs.StateFile.{body_of, eight_bytes, other_bytes, stamp_bytes, state_bytes, state_magic, with_end}
-use Rattle.cs_state.specs.Sums.{sums_of}
+use Rattle.cs_state.specs.StateFile.{body_of, eight_bytes, length_bytes, other_bytes, sealed, stamp_bytes, state_bytes}
 use Rattle.cs_state.specs.StateWriters.{Appends, HasWritten}
 use Rattle.cs_state.specs.SummedOutputs.{bytes_given}
+use Rattle.cs_state.specs.declared.state_key.StateSeal.{StateSeal}
 use Rattle.cs_state.specs.declared.state_writer.StateWriter.{StateWriter}
 
 pub on_ok : {T E A B : Type 0} (r : Result T E) → (A → B) → OnOk r A → OnOk r B
@@ -23,6 +21,7 @@ pub appends_more : {O : Type 0} {given : O → List ℕ} {x y z : StateWriter O}
 appends_more {a = a} {b = b} first next = record {
   grew = next.grew ∙ ap (λ l. l ++ b) first.grew ∙ append_assoc _ a b;
   summed = λ summed. next.summed (first.summed summed);
+  seal = next.seal ∙ first.seal;
   index_len = next.index_len ∙ first.index_len;
   stamps_len = next.stamps_len ∙ first.stamps_len;
 }
@@ -54,38 +53,25 @@ stamps_len_more stamps stamp old new was more =
     let s = stamp_len stamp in
     omega (arith, e, a, s, was, more)
 
-pub other_written : {O T E : Type 0} (given : O → List ℕ) (x y : StateWriter O) (bytes : List ℕ) (r : Result T E) (index : List ℕ) (stamps : List Stamp)
-    (others : List Known) (other : Known) → HasWritten given x index stamps others → bytes ≡ other_bytes other → OnOk r (Appends given x y bytes) →
-    OnOk r (HasWritten given y index stamps (others ++ other ∷ []))
-other_written given x y bytes r index stamps others other written is appended = on_ok r (λ (next : Appends given x y bytes). record {
+pub other_written : {O T E : Type 0} (given : O → List ℕ) (seal : StateSeal) (x y : StateWriter O) (bytes : List ℕ) (r : Result T E) (index : List ℕ) (stamps : List Stamp)
+    (others : List Known) (other : Known) → HasWritten given seal x index stamps others → bytes ≡ other_bytes other → OnOk r (Appends given x y bytes) →
+    OnOk r (HasWritten given seal y index stamps (others ++ other ∷ []))
+other_written given seal x y bytes r index stamps others other written is appended = on_ok r (λ (next : Appends given x y bytes). record {
+  seal_is = next.seal ∙ written.seal_is;
   bytes = other_more index _ _ stamps others other written.bytes (next.grew ∙ ap (λ b. bytes_given given x.out ++ b) is);
   summed = next.summed written.summed;
   index_len = next.index_len ∙ written.index_len;
   stamps_len = next.stamps_len ∙ written.stamps_len;
 }) appended
 
-pub no_items : (xs : List ℕ) → length xs ≡ 0 → xs ≡ []
-no_items [] e = refl
-no_items (x ∷ xs) e = absurd (omega (arith, e))
-
-pub some_items : (n : ℕ) → eqb n 0 ≡ false → 0 < n
-some_items zero h = absurd (false≢true (sym h))
-some_items (suc n) h = omega arith
-
-pub if_ok : {T E : Type 0} (r : Result T E) (new a b : List ℕ) → new ≡ cond (is_ok r) a b → OnOk r (new ≡ a)
-if_ok (Ok x) new a b is = is
-if_ok (Err e) new a b is = tt
-
-pub finished : (given0 given1 given2 given3 all index : List ℕ) (stamps : List Stamp) (others : List Known) (index_len stamps_len : ℕ) →
-    all ≡ body_of index stamps others → given0 ≡ all ++ sums_of all → given1 ≡ given0 ++ eight_bytes index_len →
-    given2 ≡ given1 ++ eight_bytes stamps_len → given3 ≡ given2 ++ state_magic → index_len ≡ min (length index) 18446744073709551615 →
+-- the lengths that were counted are those of the sections
+pub finished : (seal : StateSeal) (all index : List ℕ) (stamps : List Stamp) (others : List Known) (index_len stamps_len : ℕ) →
+    all ≡ body_of index stamps others → index_len ≡ min (length index) 18446744073709551615 →
     stamps_len ≡ min (length (flat_map stamp_bytes stamps)) 18446744073709551615 → length (body_of index stamps others) < 18446744073709551616 →
-    given3 ≡ state_bytes index stamps others
-unfolding with_end
-finished given0 given1 given2 given3 all index stamps others index_len stamps_len is p0 p1 p2 p3 first second short =
+    sealed seal all (length_bytes index_len stamps_len) ≡ state_bytes seal index stamps others
+finished seal all index stamps others index_len stamps_len is first second short =
     let a = length-append (index ++ flat_map stamp_bytes stamps) (flat_map other_bytes others) in
     let b = length-append index (flat_map stamp_bytes stamps) in
     let e : index_len ≡ length index = omega (arith, a, b, first, short) in
     let f : stamps_len ≡ length (flat_map stamp_bytes stamps) = omega (arith, a, b, second, short) in
-    p3 ∙ ap (λ l. l ++ state_magic) (p2 ∙ ap (λ l. l ++ eight_bytes stamps_len) (p1 ∙ ap (λ l. l ++ eight_bytes index_len) p0))
-    ∙ (λ i. (((is i ++ sums_of (is i)) ++ eight_bytes (e i)) ++ eight_bytes (f i)) ++ state_magic)
+    λ i. sealed seal (is i) (length_bytes (e i) (f i))

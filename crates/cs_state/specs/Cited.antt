@@ -9,11 +9,11 @@ pub use Rattle.cs_state.specs.OpenedStates.{HasIndex}
 pub use Rattle.cs_state.specs.OtherReaders.{IsFirstOther, IsNextOther, ReadsOthers}
 pub use Rattle.cs_state.specs.Others.{kept_of, other_of}
 pub use Rattle.cs_state.specs.StampReaders.{IsStampAt, ReadsStamps}
-pub use Rattle.cs_state.specs.StateFile.{body_of, eight_bytes, kept_byte, stamp_bytes, state_bytes}
+pub use Rattle.cs_state.specs.StateFile.{body_of, eight_bytes, kept_byte, length_bytes, sealed, stamp_bytes, state_bytes}
 pub use Rattle.cs_state.specs.StateLengths.{AreLengths, AreWithin, HasForm}
 pub use Rattle.cs_state.specs.StateWriters.{Appends, HasWritten}
-pub use Rattle.cs_state.specs.SummedOutputs.{IsSummed, IsSummedIfWhole, bytes_given}
+pub use Rattle.cs_state.specs.SummedOutputs.{IsSummed, IsSummedIfWhole, KeepsSeal, bytes_given}
 pub use Rattle.cs_state.specs.SummedStores.{KeepsBytes, ReadsSummed}
-pub use Rattle.cs_state.specs.Sums.{HasSum, sums_of}
+pub use Rattle.cs_state.specs.Sums.{IsTested, seal_of, sums_of}
 pub use Rattle.cs_state.specs.Windows.{IsPiece}
 pub use Rattle.cs_state.specs.WrittenForm.{lengths_of}

@@ -1,9 +1,11 @@
 -- The file of a project's state: its index, the stamp of each name of the index, the other files that are known, and sums.
-use Rattle.std.specs.Prelude.{ℕ, List, ◌∷◌, ◌++◌, length, codes, flat_map}
+-- docs/FORMAT.md, "The state of a project".
+use Rattle.std.specs.Prelude.{ℕ, true, List, ◌∷◌, ◌++◌, length, codes, flat_map}
 use Rattle.std.specs.Int.{to_be_bytes, w64}
 use Rattle.cs_tree.specs.declared.tree.Stamp.{Stamp}
 use Rattle.cs_state.specs.Known.{Kept, Known, indexed, binary, apart}
-use Rattle.cs_state.specs.Sums.{sums_of}
+use Rattle.cs_state.specs.Sums.{piece_count, sum_of, sums_of}
+use Rattle.cs_state.specs.declared.state_key.StateSeal.{StateSeal}
 
 unfoldable pub eight_bytes : ℕ → List ℕ
 eight_bytes n = to_be_bytes w64 n
@@ -26,11 +28,20 @@ abbrev pub body_of : List ℕ → List Stamp → List Known → List ℕ
 body_of index stamps others = index ++ flat_map stamp_bytes stamps ++ flat_map other_bytes others
 
 abbrev pub state_magic : List ℕ
-state_magic = codes "codesearch state1"
+state_magic = codes "codesearch state2"
 
--- with the sums, the lengths of the index and of the stamps, and the magic
-unfoldable pub with_end : List ℕ → ℕ → ℕ → List ℕ
-with_end body index_len stamps_len = body ++ sums_of body ++ eight_bytes index_len ++ eight_bytes stamps_len ++ state_magic
+-- the last piece, which says the lengths of the index and of the stamps
+unfoldable pub length_bytes : ℕ → ℕ → List ℕ
+length_bytes index_len stamps_len = eight_bytes index_len ++ eight_bytes stamps_len
 
-abbrev pub state_bytes : List ℕ → List Stamp → List Known → List ℕ
-state_bytes index stamps others = with_end (body_of index stamps others) (length index) (length (flat_map stamp_bytes stamps))
+-- the last piece, by its number, its sum, the moment of the seal, and the magic
+abbrev pub end_of : StateSeal → ℕ → List ℕ → List ℕ
+end_of seal number last = last ++ sum_of seal number true last ++ eight_bytes seal.moment ++ state_magic
+
+-- bytes with the sums of their pieces, and a last piece
+unfoldable pub sealed : StateSeal → List ℕ → List ℕ → List ℕ
+sealed seal body last = (body ++ sums_of seal body) ++ end_of seal (piece_count (length body)) last
+
+abbrev pub state_bytes : StateSeal → List ℕ → List Stamp → List Known → List ℕ
+state_bytes seal index stamps others =
+    sealed seal (body_of index stamps others) (length_bytes (length index) (length (flat_map stamp_bytes stamps)))

@@ -11,9 +11,13 @@ bytes_given given output = given output.out ++ output.piece.items
 pub record IsSummed {O : Type 0} (given : O → List ℕ) (output : SummedOutput O) : Type 0 where
   pub count : ℕ
   pub sent : length (given output.out) ≡ piece_len * count
-  pub sums : output.sums.items ≡ sums_within count (given output.out)
+  pub sums : output.sums.items ≡ sums_within output.seal (given output.out) count
   pub len : output.len ≡ min (length (bytes_given given output)) 18446744073709551615
 
 -- summed, unless an append has failed
 abbrev pub IsSummedIfWhole : {O : Type 0} → (O → List ℕ) → SummedOutput O → Type 0
 IsSummedIfWhole given output = output.whole ≡ true → IsSummed given output
+
+-- the seal, the count of bytes and the note of a failed append stay
+abbrev pub KeepsSeal : {O : Type 0} → SummedOutput O → SummedOutput O → Type 0
+KeepsSeal old new = (new.seal ≡ old.seal) × (new.len ≡ old.len) × (new.whole ≡ old.whole)

@@ -12,7 +12,7 @@ pub struct FirstBytes<S> {
 
 impl<S: Store> FirstBytes<S> {
     /// Allocates nothing.
-    pub fn new(store: S, len: usize) -> FirstBytes<S>
+    pub(crate) fn new(store: S, len: usize) -> FirstBytes<S>
         ensures store { result.store ≡ store }
         ensures len { result.len ≡ len }
     {

@@ -1,63 +1,81 @@
 // Bytes of a store that are tested by sums as they are read.
 ghost use Rattle.std.specs.Prelude.{◌≡◌, ◌≤◌, ◌<◌, ◌^◌, ℕ, List, Some, IfOk, OnOk, length, min, option_map, take};
-ghost use Rattle.cs_state.specs.Cited.{count_after, ReadShows, is_io_failure, HasSum, KeepsBytes, ReadsSummed};
+ghost use Rattle.cs_state.specs.Cited.{count_after, ReadShows, is_io_failure, IsTested, KeepsBytes, ReadsSummed};
 
+use crate::state_key::StateSeal;
 use crate::summed_bytes::SummedBytes;
-use crate::sums::{PIECE_LEN, sum_bytes};
+use crate::sums::{PIECE_LEN, SUM_LEN};
 use cs_tree::{IoFault, Store, read_part};
 use std::alloc::Global;
 
 impl<S: Store> SummedBytes<S> {
-    /// The first `len` bytes, with no piece tested.
-    pub fn new(alloc: Global, store: S, len: usize) -> SummedBytes<S>
+    /// The first `len` bytes, with no piece in memory.
+    pub(crate) fn new(alloc: Global, store: S, len: usize, seal: StateSeal) -> SummedBytes<S>
         requires { len < 2 ^ 32 }
         ensures store { result.store ≡ store }
         ensures len { result.len ≡ len }
+        ensures seal { result.seal ≡ seal }
     {
         SummedBytes {
             store,
             len,
-            tested: usize::MAX,
+            seal,
+            piece: Vec::new(alloc),
+            number: 0,
             failed: 0,
             alloc,
         }
     }
 
-    /// Tests the piece with this number, unless it is the one that was tested last.
-    fn test(&mut self, number: usize) -> Result<(), IoFault>
+    /// Reads the piece with this number, and its sum.
+    fn tested(&mut self, number: usize) -> Result<Vec<u8>, IoFault>
         requires { number < 2 ^ 32 }
-        ensures sum { (all : List ℕ) → S.model self.old.store ≡ Some all →
-            OnOk result (HasSum all self.old.len number) }
+        ensures tested { (all : List ℕ) → S.model self.old.store ≡ Some all →
+            IfOk result (λ piece. IsTested self.old.seal all self.old.len number piece.items) }
         ensures keeps { KeepsBytes self.old self.new }
     {
-        if number == self.tested {
-            return Ok(());
-        }
         let at = number * PIECE_LEN;
         let len = PIECE_LEN.min(self.len.saturating_sub(at));
         let piece = read_part(self.alloc, &mut self.store, at, len)?;
-        let stored = read_part(self.alloc, &mut self.store, self.len + 8 * number, 8)?;
-        if stored.as_slice() != sum_bytes(&piece).as_slice() {
+        let at = self.len + SUM_LEN * number;
+        let sum = read_part(self.alloc, &mut self.store, at, SUM_LEN)?;
+        if sum.as_slice() != self.seal.sum(number, false, &piece).as_slice() {
             return Err(IoFault::Failed);
         }
-        self.tested = number;
+        Ok(piece)
+    }
+
+    /// Has the piece with this number in memory.
+    fn reach(&mut self, number: usize) -> Result<(), IoFault>
+        requires { number < 2 ^ 32 }
+        ensures tested { (all : List ℕ) → S.model self.old.store ≡ Some all →
+            OnOk result (IsTested self.old.seal all self.old.len number self.new.piece.items) }
+        ensures keeps { KeepsBytes self.old self.new }
+    {
+        if number == self.number && !self.piece.is_empty() {
+            return Ok(());
+        }
+        self.piece = self.tested(number)?;
+        self.number = number;
         Ok(())
     }
 
-    /// Reads within one piece, after its test.
+    /// Reads within one piece.
     fn read_piece(&mut self, buf: &mut [u8], at: usize) -> Result<usize, IoFault>
         ensures within { IfOk result (λ n. n ≤ length buf.new) }
         ensures bytes { ReadShows (option_map (take self.old.len) (S.model self.old.store)) at
             result buf.new }
         ensures keeps { KeepsBytes self.old self.new }
-        ensures sums { ReadsSummed (S.model self.old.store) self.old.len at result }
+        ensures sums { ReadsSummed self.old.seal (S.model self.old.store) self.old.len at result }
     {
         if at >= self.len {
             return Ok(0);
         }
-        self.test(at / PIECE_LEN)?;
-        let room = buf.len().min(PIECE_LEN - at % PIECE_LEN).min(self.len - at);
-        self.store.read_at(&mut buf[..room], at)
+        self.reach(at / PIECE_LEN)?;
+        let rest = &self.piece[self.piece.len().min(at % PIECE_LEN)..];
+        let n = rest.len().min(buf.len());
+        buf[..n].copy_from_slice(&rest[..n]);
+        Ok(n)
     }
 }
 
@@ -81,7 +99,8 @@ impl<S: Store> Store for SummedBytes<S> {
             ≡ ⟦<SummedBytes<S> as Store>⟧.size self.old }
         ensures failed { ⟦<SummedBytes<S> as Store>⟧.failed self.new
             ≡ count_after is_io_failure result (⟦<SummedBytes<S> as Store>⟧.failed self.old) }
-        ensures sums { ReadsSummed (S.model self.old.store) self.old.len at result }
+        ensures sums { ReadsSummed self.old.seal (S.model self.old.store) self.old.len at result }
+        ensures seal { self.new.seal ≡ self.old.seal }
     {
         let answer = self.read_piece(buf, at);
         self.failed = failures_after(answer, self.failed);

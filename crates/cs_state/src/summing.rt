@@ -1,22 +1,28 @@
 // Outputs whose bytes are summed piece by piece.
-ghost use Rattle.std.specs.Prelude.{◌≡◌, ◌<◌, ◌++◌, [], IfOk, OnOk, length};
-ghost use Rattle.cs_state.specs.Cited.{sums_of, IsSummed, IsSummedIfWhole, bytes_given};
+ghost use Rattle.std.proofs.Common.{◌∙◌};
+ghost use Rattle.std.specs.Prelude.{◌≡◌, ◌<◌, ◌++◌, [], IfOk, OnOk, length, refl};
+ghost use Rattle.cs_state.specs.Cited.{seal_of, sealed, sums_of, IsSummed, IsSummedIfWhole, KeepsSeal, bytes_given};
 
+use crate::state_key::{StateKey, StateSeal};
 use crate::summed_output::SummedOutput;
-use crate::sums::{PIECE_LEN, sum_bytes};
+use crate::sums::{PIECE_LEN, SUM_LEN};
+use crate::writing::MAGIC;
 use cs_tree::Output;
 use std::alloc::{AllocError, Global};
 
 impl<O: Output> SummedOutput<O> {
-    /// An output before another one, which was given nothing.
-    pub fn new(alloc: Global, out: O) -> SummedOutput<O>
+    /// An output before another one, which was given nothing. The sums are made with a key and the
+    /// moment of the state.
+    pub fn new(alloc: Global, out: O, key: StateKey, moment: u64) -> SummedOutput<O>
         requires { O.given out ≡ [] }
         ensures out { result.out ≡ out }
+        ensures seal { result.seal ≡ seal_of key moment }
         ensures given { bytes_given O.given result ≡ [] }
         ensures summed { IsSummed O.given result }
     {
         SummedOutput {
             out,
+            seal: StateSeal { key, moment },
             piece: Vec::new(alloc),
             sums: Vec::new(alloc),
             len: 0,
@@ -26,30 +32,35 @@ impl<O: Output> SummedOutput<O> {
 
     /// Sends the piece on, and keeps its sum.
     fn send(&mut self) -> Result<(), AllocError>
-        requires { length self.old.piece.items ≡ 65536 }
+        requires { 0 < length self.old.piece.items }
         ensures piece { OnOk result (self.new.piece.items ≡ []) }
-        ensures given { OnOk result (bytes_given O.given self.new ≡ bytes_given O.given self.old) }
-        ensures summed { IsSummed O.given self.old → OnOk result (IsSummed O.given self.new) }
-        ensures same { self.new.whole ≡ self.old.whole }
+        ensures given { OnOk result (O.given self.new.out ≡ bytes_given O.given self.old) }
+        ensures sums { IsSummed O.given self.old →
+            OnOk result (self.new.sums.items ≡ sums_of self.old.seal (bytes_given O.given self.old)) }
+        ensures summed { length self.old.piece.items ≡ 65536 → IsSummed O.given self.old →
+            OnOk result (IsSummed O.given self.new) }
+        ensures same { KeepsSeal self.old self.new }
         ensures keeps { O.Keeps self.old.out self.new.out }
     {
-        self.sums.extend_from_slice(&sum_bytes(&self.piece))?;
+        let number = self.sums.len() / SUM_LEN;
+        let sum = self.seal.sum(number, false, &self.piece);
+        self.sums.extend_from_slice(&sum)?;
         self.out.append(&self.piece)?;
         self.piece.clear();
         Ok(())
     }
 
-    /// Completes the sums by that of the last piece.
+    /// Sends the last piece on, if there is one.
     fn complete(&mut self) -> Result<(), AllocError>
+        ensures given { OnOk result (O.given self.new.out ≡ bytes_given O.given self.old) }
         ensures sums { IsSummed O.given self.old →
-            OnOk result (self.new.sums.items ≡ sums_of (bytes_given O.given self.old)) }
-        ensures out { self.new.out ≡ self.old.out }
-        ensures piece { self.new.piece ≡ self.old.piece }
+            OnOk result (self.new.sums.items ≡ sums_of self.old.seal (bytes_given O.given self.old)) }
+        ensures same { KeepsSeal self.old self.new }
     {
         if self.piece.is_empty() {
             return Ok(());
         }
-        self.sums.extend_from_slice(&sum_bytes(&self.piece))
+        self.send()
     }
 
     /// Takes bytes up to the end of the piece, and sends a full one on before. Returns the others.
@@ -58,7 +69,8 @@ impl<O: Output> SummedOutput<O> {
             ≡ bytes_given O.given self.old ++ bytes.now) }
         ensures fewer { IfOk result (λ rest. 0 < length bytes.now → length rest.now < length bytes.now) }
         ensures summed { IsSummed O.given self.old → OnOk result (IsSummed O.given self.new) }
-        ensures same { self.new.whole ≡ self.old.whole }
+        ensures whole { self.new.whole ≡ self.old.whole }
+        ensures seal { self.new.seal ≡ self.old.seal }
         ensures keeps { O.Keeps self.old.out self.new.out }
     {
         if self.piece.len() == PIECE_LEN {
@@ -72,10 +84,11 @@ impl<O: Output> SummedOutput<O> {
 }
 
 impl<O: Output + Drop> SummedOutput<O> {
-    /// Sends the last piece and the sums, and gives the output back.
-    pub(crate) fn finish(mut self) -> Result<O, AllocError>
-        ensures { IsSummedIfWhole O.given self → IfOk result (λ out. O.given out
-            ≡ bytes_given O.given self ++ sums_of (bytes_given O.given self)) }
+    /// Sends the rest of the bytes, the sums, and then a last piece with its sum, the moment and
+    /// the magic. Gives the output back.
+    pub(crate) fn finish(mut self, last: &[u8]) -> Result<O, AllocError>
+        ensures { IsSummedIfWhole O.given self →
+            IfOk result (λ out. O.given out ≡ sealed self.seal (bytes_given O.given self) last.now) }
     {
         if !self.whole {
             return Err(AllocError);
@@ -83,12 +96,15 @@ impl<O: Output + Drop> SummedOutput<O> {
         self.complete()?;
         let SummedOutput {
             mut out,
-            piece,
+            seal,
             sums,
             ..
         } = self;
-        out.append(&piece)?;
         out.append(&sums)?;
+        out.append(last)?;
+        out.append(&seal.sum(sums.len() / SUM_LEN, true, last))?;
+        out.append(&seal.moment.to_be_bytes())?;
+        out.append(MAGIC)?;
         Ok(out)
     }
 }
@@ -99,13 +115,14 @@ impl<O: Output> Output for SummedOutput<O> {
     ghost given = { λ s. bytes_given O.given s };
 
     ghost Keeps = { λ old new. O.Keeps old.out new.out
-        × (IsSummedIfWhole O.given old → IsSummedIfWhole O.given new) };
+        × (IsSummedIfWhole O.given old → IsSummedIfWhole O.given new) × (new.seal ≡ old.seal) };
 
-    ghost keeps_refl = { λ x. (O.keeps_refl x.out, λ summed. summed) };
+    ghost keeps_refl = { λ x. (O.keeps_refl x.out, λ summed. summed, refl) };
 
     ghost keeps_trans = { λ x y z first next. (
       O.keeps_trans x.out y.out z.out first.0 next.0,
       λ summed. next.1 (first.1 summed),
+      next.2 ∙ first.2,
     ) };
 
     fn append(&mut self, bytes: &[u8]) -> Result<(), AllocError> {

@@ -174,7 +174,7 @@ module _ (run : Run) where
   each_anew P Q so (one ∷ known) each = (so one each.0, each_anew P Q so known each.1)
 
 pub first_states_join : FirstStatesJoin
-first_states_join run lists states bytes firsts is =
+first_states_join key run lists states bytes firsts is =
     let seen = flat_map (λ seen. seen) lists in
     let own = own_files run seen in
     record {

@@ -28,6 +28,7 @@ use Rattle.cs_state.specs.Others.{kept_of}
 use Rattle.cs_state.specs.ProjectStates.{IsOther}
 use Rattle.cs_state.specs.declared.others.Unindexed.{Unindexed}
 use Rattle.cs_state.specs.declared.others.Unindexed.TheVariants.{Apart, Binary}
+use Rattle.cs_state.specs.declared.state_key.StateSeal.{StateSeal}
 use Rattle.cs_update.specs.Contents.{Content, text, unindexed}
 use Rattle.cs_update.specs.Learning.{HasLearned, IsProjectName, LearnedFile, Seen, all_learned, entry_in, other_files, other_in, stamp_in, text_entries, text_stamps}
 use Rattle.cs_update.specs.MergedLists.{Stamped, merged, stamps_in, uncovered}
@@ -137,8 +138,9 @@ module _ (run : Run) (seen : List Seen) (learned : Learned) (has : HasLearned le
   texts_are built = texts_anew run own files (all_seen run seen) (have_entries run own files (got_each (text_entries files)
       (ap (λ es. are_ascending (names_of es)) (sym has.texts) ∙ built.ascend)))
 
-  pub first_of : learned.texts.paths ≡ (slash ∷ []) ∷ [] → (bytes : List ℕ) → IsWritten learned bytes → IsFirstState run seen bytes
-  first_of root bytes written =
+  pub first_of : (seal : StateSeal) → learned.texts.paths ≡ (slash ∷ []) ∷ [] → (bytes : List ℕ) → IsWritten seal learned bytes →
+      IsFirstState seal.key run seen bytes
+  first_of seal root bytes written =
       let index = encoding_of learned.texts.paths learned.texts.entries in
       let built = written.built in
       let nothing = merge_nothing root_paths own in
@@ -152,14 +154,15 @@ module _ (run : Run) (seen : List Seen) (learned : Learned) (has : HasLearned le
       (λ (one : Stamped). IsReadAnew run own (text_known one.0 one.1)) pairs (texts_are built))
       (all_inr (StaysKnown root_paths no_state.known) (IsReadAnew run own) (other_files files) (others_anew run own files (all_seen run seen)))
       (entries_under root_paths (text_entries files) (texts_absolute files has.names))
-      (subst (λ s. AreStateBytes index s (other_files files) bytes)
+      (subst (λ s. AreStateBytes seal index s (other_files files) bytes)
       (has.stamps ∙ sym (zip_values (names_of (text_entries files)) (text_stamps files) (as_many files)))
-      (subst (λ o. AreStateBytes index learned.stamps.items o bytes) has.others written.state))
+      (subst (λ o. AreStateBytes seal index learned.stamps.items o bytes) has.others written.state))
 
   -- ---- an update of an old state
 
-  pub update_of : (old : ProjectState) (bytes : List ℕ) → IsMergedState learned old bytes → IsUpdateOf run seen (path_set learned.texts) old bytes
-  update_of old bytes is =
+  pub update_of : (seal : StateSeal) (old : ProjectState) (bytes : List ℕ) → IsMergedState seal learned old bytes →
+      IsUpdateOf seal.key run seen (path_set learned.texts) old bytes
+  update_of seal old bytes is =
       let paths = path_set learned.texts in
       let same : file_map learned.texts ≡ own = ap map'.from_entries has.texts in
       let pairs_same : zip (names_of learned.texts.entries) learned.stamps.items ≡ pairs = (λ i. zip (names_of (has.texts i)) (has.stamps i)) in
@@ -181,7 +184,7 @@ module _ (run : Run) (seen : List Seen) (learned : Learned) (has : HasLearned le
       (each_named (λ (one : Stamped). IsReadAnew run own (text_known one.0 one.1)) IsTextOf (λ one anew. inr anew) pairs (texts_are is.built)))
       (each_other is.others (subst (λ o. AllByRecursion (IsOtherOf paths old.known o) is.others) has.others is.each_other))
       (entries_under paths (text_entries files) covered)
-      (subst (λ p. AreStateBytes is.index (stamps_in (merged (uncovered paths olds) p)) is.others bytes) pairs_same is.state)
+      (subst (λ p. AreStateBytes seal is.index (stamps_in (merged (uncovered paths olds) p)) is.others bytes) pairs_same is.state)
     where
       IsTextOf : Stamped → Type 0
       IsTextOf one = IsOfUpdate run (path_set learned.texts) own old.known (text_known one.0 one.1)

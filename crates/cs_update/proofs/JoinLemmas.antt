@@ -47,6 +47,8 @@ use Rattle.cs_state.specs.declared.first_bytes.FirstBytes.{FirstBytes}
 use Rattle.cs_state.specs.declared.other_reader.OtherReader.{OtherReader}
 use Rattle.cs_state.specs.declared.state_lengths.StateLengths.{StateLengths}
 use Rattle.cs_state.specs.declared.summed_bytes.SummedBytes.{SummedBytes}
+use Rattle.cs_state.specs.declared.state_key.StateKey.{StateKey}
+use Rattle.cs_state.specs.declared.state_key.StateSeal.{StateSeal}
 use Rattle.cs_update.specs.JoinedStates.{AreKnownStamps, AreOpen, IsBodyOf, IsJoinedState, KeepsBody, body_in, index_in, known_in, parts_of}
 use Rattle.cs_update.specs.MergedLists.{Stamped}
 use Rattle.cs_update.specs.OldTexts.{IsOtherOf}
@@ -182,15 +184,16 @@ all_indexed P [] stamps all = tt
 all_indexed P (name ∷ names) [] all = tt
 all_indexed P (name ∷ names) (stamp ∷ stamps) all = (all.0, all_indexed P names stamps all.1)
 
-pub joined_state : (states : List ProjectState) (index bytes : List ℕ) (stamps : List Stamp) (others : List Known) →
+pub joined_state : (seal : StateSeal) (states : List ProjectState) (index bytes : List ℕ) (stamps : List Stamp) (others : List Known) →
     IsJoinedIndex (parts_of states) index → AreKnownStamps (joined_names (parts_of states)) (known_in states) stamps →
-    AllByRecursion (λ one. IsListed one (known_in states)) others → AreStateBytes index stamps others bytes → IsJoinedState states bytes
-joined_state states index bytes stamps others is stamped listed state =
+    AllByRecursion (λ one. IsListed one (known_in states)) others → AreStateBytes seal index stamps others bytes → IsJoinedState seal.key states bytes
+joined_state seal states index bytes stamps others is stamped listed state =
     let parts = is.decoding.parts in
     let names = is.names in
     record {
       joined = record { parts = parts; known = indexed_files parts.names stamps ++ others };
       state = record {
+        moment = seal.moment;
         index = index;
         stamps = stamps;
         others = others;
@@ -295,6 +298,7 @@ module _ {S : Type 0} {G : Ghosts S} where
 
   still_body : (old new : StateBody S G) (state : ProjectState) → KeepsBody old new → IsBodyOf old state → IsBodyOf new state
   still_body old new state keeps is = record {
+    key = is.key;
     bytes = is.bytes;
     is = is.is;
     model = keeps.0 ∙ is.model;
@@ -360,7 +364,7 @@ stamp_found (stamp ∷ stamps) (suc id) within =
     let on : suc id + 1 ≡ suc (id + 1) = omega arith in
     (rest.0, rest.1, ap (λ k. take k (stamp ∷ stamps)) on ∙ ap (λ (l : List Stamp). stamp ∷ l) rest.2)
 
-module _ (bytes : List ℕ) (state : ProjectState) (is : IsState bytes state) where
+module _ {key : StateKey} (bytes : List ℕ) (state : ProjectState) (is : IsState key bytes state) where
   abbrev body : List ℕ
   body = body_of is.index is.stamps is.others
 
@@ -431,13 +435,14 @@ module _ {S : Type 0} {G : Ghosts S} where
   body_count (one ∷ bodies) [] is = absurd is
   body_count (one ∷ bodies) (s ∷ states) is = ap suc (body_count bodies states is.1)
 
-  pub open_more : (old new : StateParts S G) (states : List ProjectState) (state : ProjectState) (bytes : List ℕ) (is : IsState bytes state)
+  pub open_more : {key : StateKey} (old new : StateParts S G) (states : List ProjectState) (state : ProjectState) (bytes : List ℕ)
+      (is : IsState key bytes state)
       (model : Option (List ℕ)) (lengths : StateLengths) (stored : StoredParts) (part : StoredPart (FirstBytes (SummedBytes S G)))
       (body : StateBody S G) (parts : Parts) → AreOpen old states → HasIndex bytes model lengths stored → index_in part.store ≡ model →
       IsStoredPart index_in part parts → body_in body.bytes ≡ Some (take lengths.body bytes) → body.lengths ≡ lengths →
       new.indexes.items ≡ old.indexes.items ++ part ∷ [] → new.bodies.items ≡ old.bodies.items ++ body ∷ [] →
       AreOpen new (states ++ state ∷ [])
-  open_more old new states state bytes is model lengths stored part body parts is_open has opened stands in_body long indexes bodies =
+  open_more {key = key} old new states state bytes is model lengths stored part body parts is_open has opened stands in_body long indexes bodies =
       let index = index_model bytes state is model lengths stored has in
       let same : stands.bytes ≡ is.index = same_some stands.bytes is.index (sym stands.known ∙ opened ∙ index) in
       let one : parts ≡ state.parts = decoding_is_unique is.index parts state.parts
@@ -452,9 +457,10 @@ module _ {S : Type 0} {G : Ghosts S} where
         bodies =
             subst (λ xs. AllZip IsBodyOf xs (states ++ state ∷ [])) (sym bodies)
             (all_zipped_more IsBodyOf old.bodies.items states body state is_open.bodies (record {
+              key = key;
               bytes = bytes;
               is = is;
               model = in_body ∙ body_model bytes state is model lengths stored has;
-              lengths = long ∙ own_lengths bytes state is lengths has.form;
+              lengths = long ∙ own_lengths bytes state is has.seal lengths has.form;
             }));
       }

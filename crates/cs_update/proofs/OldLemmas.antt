@@ -30,6 +30,7 @@ use Rattle.cs_state.specs.ProjectStates.{HasNumbers, IsState, indexed_files}
 use Rattle.cs_state.specs.StampReaders.{ReadsStamps}
 use Rattle.cs_state.specs.StateFile.{body_of, other_bytes, stamp_bytes}
 use Rattle.cs_state.specs.declared.state_lengths.StateLengths.{StateLengths}
+use Rattle.cs_state.specs.declared.state_key.StateKey.{StateKey}
 use Rattle.cs_update.specs.MergedLists.{Stamped}
 use Rattle.cs_update.specs.OldTexts.{HasStamps}
 use Rattle.cs_update.specs.declared.old_texts.OldTexts.{OldTexts}
@@ -55,7 +56,7 @@ listed_pairs known others (n ∷ names) [] into = tt
 listed_pairs known others (n ∷ names) (s ∷ stamps) into =
     (into (text_known n s) (inl refl), listed_pairs known others names stamps (λ one is. into one (inr is)))
 
-module _ (bytes : List ℕ) (old : ProjectState) (is : IsState bytes old) where
+module _ {key : StateKey} (bytes : List ℕ) (old : ProjectState) (is : IsState key bytes old) where
   pub stamps_at : (id : ℕ) (stamp : Stamp) → slice_get is.stamps id ≡ Some stamp →
       (part_of (body_of is.index is.stamps is.others) (length is.index + 40 * id) 40 ≡ stamp_bytes stamp) × HasNumbers stamp
   stamps_at id stamp at =
@@ -77,7 +78,7 @@ module _ (bytes : List ℕ) (old : ProjectState) (is : IsState bytes old) where
       HasStamps (body_of is.index is.stamps is.others) is.stamps texts
   texts_open model lengths stored has texts names reads =
       let body = body_of is.index is.stamps is.others in
-      let start : lengths.index ≡ length is.index = ap (λ (l : StateLengths). l.index) (own_lengths bytes old is lengths has.form) in
+      let start : lengths.index ≡ length is.index = ap (λ (l : StateLengths). l.index) (own_lengths bytes old is has.seal lengths has.form) in
       record {
         start = lengths.index;
         end = lengths.index + lengths.stamps;

@@ -19,6 +19,7 @@ use Rattle.cs_merge.proofs.DecodedContentLemmas.{decoded_names}
 use Rattle.cs_merge.proofs.MergeLemmas.{get-merge_files}
 use Rattle.cs_state.specs.Known.{Known, ProjectState}
 use Rattle.cs_state.specs.ProjectStates.{HasNumbers, indexed_files}
+use Rattle.cs_state.specs.declared.state_key.StateSeal.{StateSeal}
 use Rattle.cs_update.specs.Learning.{Seen}
 use Rattle.cs_update.specs.MergedLists.{Stamped, stamps_in}
 use Rattle.cs_update.specs.Updates.{IsReadAnew, StaysKnown}
@@ -58,16 +59,17 @@ module _ (run : Run) (seen : List Seen) (paths all_paths : Paths) (old : Project
   abbrev files : Files
   files = merge_files paths (files_in old.parts) own
 
-  pub updated : (decoding : DecodesAsContent index all_paths files) → map'.keys files ≡ map name_of list →
+  pub updated : {seal : StateSeal} (decoding : DecodesAsContent index all_paths files) → map'.keys files ≡ map name_of list →
       AllByRecursion (λ (one : Stamped). IsOfUpdate run paths own old.known (text_known one.0 one.1)) list →
       AllByRecursion (IsOfUpdate run paths own old.known) others → LieUnder paths own →
-      AreStateBytes index (stamps_in list) others bytes → IsUpdateOf run seen paths old bytes
-  updated decoding keys texts rest under state =
+      AreStateBytes seal index (stamps_in list) others bytes → IsUpdateOf seal.key run seen paths old bytes
+  updated {seal = seal} decoding keys texts rest under state =
       let names : decoding.parts.names ≡ map name_of list = sym (decoded_names index all_paths files decoding) ∙ keys in
       let stamps = stamps_in list in
       record {
         new = record { parts = decoding.parts; known = indexed_files decoding.parts.names stamps ++ others };
         state = record {
+          moment = seal.moment;
           index = index;
           stamps = stamps;
           others = others;

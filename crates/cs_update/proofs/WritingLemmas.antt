@@ -9,6 +9,7 @@ use Rattle.cs_known.specs.declared.seen.SeenFile.{SeenFile}
 use Rattle.cs_state.specs.Known.{IsListed, Known}
 use Rattle.cs_state.specs.ProjectStates.{IsOther}
 use Rattle.cs_state.specs.StateFile.{body_of, other_bytes, stamp_bytes}
+use Rattle.cs_state.specs.declared.state_key.StateSeal.{StateSeal}
 use Rattle.cs_state.proofs.OtherLemmas.{other_len, stamp_len}
 use Rattle.cs_update.specs.Learning.{Seen, seen_of}
 use Rattle.cs_update.specs.NewStates.{HasBegun}
@@ -58,9 +59,10 @@ pub next_got : {X : Type 0} (done xs : List X) (at : ℕ) (d : X) → at < lengt
     (done ++ take at xs) ++ get_or xs at d ∷ [] ≡ done ++ take (at + 1) xs
 next_got done xs at d low = append_assoc done (take at xs) (get_or xs at d ∷ []) ∙ ap (λ l. done ++ l) (sym (take_more xs at d low))
 
-pub begun_at : {O : Type 0} (given : O → List ℕ) (new : NewState O) (bytes index : List ℕ) → bytes ≡ index →
-    HasBegun given new bytes [] [] → HasBegun given new index [] []
-begun_at given new bytes index same has = subst (λ i. HasBegun given new i [] []) same has
+pub begun_at : {O : Type 0} (given : O → List ℕ) (new : NewState O) (old seal : StateSeal) (bytes index : List ℕ) → old ≡ seal → bytes ≡ index →
+    HasBegun given old new bytes [] [] → HasBegun given seal new index [] []
+begun_at given new old seal bytes index sealed same has =
+    subst (λ s. HasBegun given s new index [] []) sealed (subst (λ i. HasBegun given old new i [] []) same has)
 
 -- ---- lengths
 

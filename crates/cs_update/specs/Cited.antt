@@ -11,7 +11,7 @@ pub use Rattle.cs_state.specs.OtherReaders.{known_of}
 pub use Rattle.cs_state.specs.ProjectStates.{HasNumbers, IsOther, IsState}
 pub use Rattle.cs_state.specs.StateFile.{state_bytes}
 pub use Rattle.cs_state.specs.StateLengths.{AreWithin}
-pub use Rattle.cs_state.specs.SummedOutputs.{IsSummedIfWhole, bytes_given}
+pub use Rattle.cs_state.specs.SummedOutputs.{IsSummed, IsSummedIfWhole, bytes_given}
 pub use Rattle.cs_tree.specs.NamesAscending.{are_ascending}
 pub use Rattle.cs_tree.specs.Snapshot.{Snapshot, item_at}
 pub use Rattle.cs_trigram.specs.Scans.{AreDistinctTrigrams}

@@ -14,6 +14,7 @@ use Rattle.cs_state.specs.ProjectStates.{IsState}
 use Rattle.cs_state.specs.StateFile.{body_of}
 use Rattle.cs_state.specs.WrittenForm.{lengths_of}
 use Rattle.cs_state.specs.declared.first_bytes.FirstBytes.{FirstBytes}
+use Rattle.cs_state.specs.declared.state_key.StateKey.{StateKey}
 use Rattle.cs_state.specs.declared.summed_bytes.SummedBytes.{SummedBytes}
 use Rattle.cs_update.specs.Learning.{Seen}
 use Rattle.cs_update.specs.MergedLists.{Stamped}
@@ -37,10 +38,10 @@ pub record Joins (states : List ProjectState) (joined : ProjectState) : Type 0 w
   pub files : files_in joined.parts ≡ joined_files (parts_of states)
   pub known : AllByRecursion (λ one. IsListed one (known_in states)) joined.known
 
--- The bytes are a state that joins these.
-pub record IsJoinedState (states : List ProjectState) (bytes : List ℕ) : Type 0 where
+-- The bytes are a state, sealed with the key, that joins these.
+pub record IsJoinedState (key : StateKey) (states : List ProjectState) (bytes : List ℕ) : Type 0 where
   pub joined : ProjectState
-  pub state : IsState bytes joined
+  pub state : IsState key bytes joined
   pub joins : Joins states joined
 
 -- ---- first states
@@ -51,8 +52,8 @@ IsFirstOf run seen state = Updates run root_paths (own_files run seen) no_state 
 
 -- The join of first states of several lists of files is a first state of all of these files.
 abbrev pub FirstStatesJoin : Type 0
-FirstStatesJoin = (run : Run) (lists : List (List Seen)) (states : List ProjectState) (bytes : List ℕ) →
-    AllZip (IsFirstOf run) lists states → IsJoinedState states bytes → IsFirstState run (flat_map (λ seen. seen) lists) bytes
+FirstStatesJoin = (key : StateKey) (run : Run) (lists : List (List Seen)) (states : List ProjectState) (bytes : List ℕ) →
+    AllZip (IsFirstOf run) lists states → IsJoinedState key states bytes → IsFirstState key run (flat_map (λ seen. seen) lists) bytes
 
 -- ---- open states
 
@@ -65,8 +66,9 @@ module _ {S : Type 0} {G : Ghosts S} where
 
   -- The bytes of the store are those of the state before its sums.
   pub record IsBodyOf (body : StateBody S G) (state : ProjectState) : Type 0 where
+    pub key : StateKey
     pub bytes : List ℕ
-    pub is : IsState bytes state
+    pub is : IsState key bytes state
     pub model : body_in body.bytes ≡ Some (body_of is.index is.stamps is.others)
     pub lengths : body.lengths ≡ lengths_of is.index is.stamps is.others
 

@@ -9,6 +9,7 @@ use Rattle.cs_state.specs.OpenedStates.{HasIndex}
 use Rattle.cs_state.specs.ProjectStates.{HasNumbers, IsState}
 use Rattle.cs_state.specs.StampReaders.{ReadsStamps}
 use Rattle.cs_state.specs.StateFile.{stamp_bytes}
+use Rattle.cs_state.specs.declared.state_key.StateKey.{StateKey}
 use Rattle.cs_state.specs.declared.state_lengths.StateLengths.{StateLengths}
 use Rattle.cs_update.specs.Updates.{StaysKnown}
 use Rattle.cs_update.specs.declared.old_texts.OldTexts.{OldTexts}
@@ -28,7 +29,8 @@ IsOtherOf paths known own one = StaysKnown paths known one ⊎ IsListed one own
 
 -- The file of a store is this state, whose index is open.
 pub record IsOpenState (file : Option (List ℕ)) (model : Option (List ℕ)) (lengths : StateLengths) (index : StoredParts) (old : ProjectState) : Type 0 where
+  pub key : StateKey
   pub bytes : List ℕ
   pub file_is : file ≡ Some bytes
   pub has : HasIndex bytes model lengths index
-  pub is : IsState bytes old
+  pub is : IsState key bytes old

@@ -9,6 +9,7 @@ use Rattle.cs_index.specs.Encoding.{Files}
 use Rattle.cs_known.specs.Learned.{Run}
 use Rattle.cs_state.specs.Known.{ProjectState}
 use Rattle.cs_state.specs.ProjectStates.{IsState}
+use Rattle.cs_state.specs.declared.state_key.StateKey.{StateKey}
 use Rattle.cs_update.specs.Learning.{Seen, all_learned, text_entries}
 use Rattle.cs_update.specs.Updates.{Updates}
 
@@ -20,10 +21,10 @@ paths_seen seen = least (set.from_list (map (λ (one : Seen). one.0) seen))
 abbrev pub own_files : Run → List Seen → Files
 own_files run seen = map'.from_entries (text_entries (all_learned run seen))
 
--- The bytes are a state that updates the old one by what the run learned of the files that it saw.
-pub record IsUpdateOf (run : Run) (seen : List Seen) (paths : Paths) (old : ProjectState) (bytes : List ℕ) : Type 0 where
+-- The bytes are a state, sealed with the key, that updates the old one by what the run learned of the files that it saw.
+pub record IsUpdateOf (key : StateKey) (run : Run) (seen : List Seen) (paths : Paths) (old : ProjectState) (bytes : List ℕ) : Type 0 where
   pub new : ProjectState
-  pub state : IsState bytes new
+  pub state : IsState key bytes new
   pub updates : Updates run paths (own_files run seen) old new
 
 -- a state that knows nothing
@@ -34,9 +35,9 @@ abbrev pub root_paths : Paths
 root_paths = set.from_list ((slash ∷ []) ∷ [])
 
 -- the first state of a project
-abbrev pub IsFirstState : Run → List Seen → List ℕ → Type 0
-IsFirstState run seen bytes = IsUpdateOf run seen root_paths no_state bytes
+abbrev pub IsFirstState : StateKey → Run → List Seen → List ℕ → Type 0
+IsFirstState key run seen bytes = IsUpdateOf key run seen root_paths no_state bytes
 
 -- an update of an old one, which replaces what it knows at the names that were seen
-abbrev pub IsUpdatedState : Run → List Seen → ProjectState → List ℕ → Type 0
-IsUpdatedState run seen old bytes = IsUpdateOf run seen (paths_seen seen) old bytes
+abbrev pub IsUpdatedState : StateKey → Run → List Seen → ProjectState → List ℕ → Type 0
+IsUpdatedState key run seen old bytes = IsUpdateOf key run seen (paths_seen seen) old bytes

@@ -3,6 +3,7 @@ ghost use Rattle.std.specs.Prelude.{◌≡◌, ◌++◌, true, ℕ, List, Some, 
 ghost use Rattle.std.specs.List.{AllByRecursion};
 ghost use Rattle.cs_update.specs.Cited.{are_ascending, HasLeft, Known, known_of, IsOther, HasBegun, HasOthersOf, IsOtherOf};
 ghost use Rattle.cs_tree.specs.PathSet as set;
+ghost use Rattle.cs_state.specs.declared.state_key.StateSeal.{StateSeal};
 ghost use Rattle.cs_tree.specs.declared.tree.Stamp.{Stamp};
 
 use crate::fault::UpdateFault;
@@ -19,10 +20,10 @@ impl<O: Output> NewState<O> {
         files: &'a [OtherFile],
         name: &str,
     ) -> Result<&'a [OtherFile], AllocError>
-        ensures { (index : List ℕ) (stamps : List Stamp) (others : List Known) →
-            HasBegun O.given self.old index stamps others → AllByRecursion IsOther (map known_of files.now) →
-            IfOk result (λ rest. HasOthersOf O.given self.new index stamps others
-            (map known_of files.now) (map known_of rest.now)) }
+        ensures { (seal : StateSeal) (index : List ℕ) (stamps : List Stamp) (others : List Known) →
+            HasBegun O.given seal self.old index stamps others →
+            AllByRecursion IsOther (map known_of files.now) → IfOk result (λ rest. HasOthersOf O.given
+            seal self.new index stamps others (map known_of files.now) (map known_of rest.now)) }
     {
         let mut rest = files;
         'files: while let Some((file, more)) = rest.split_first() {
@@ -46,10 +47,10 @@ pub(crate) fn write_others<S: Store, O: Output>(
     new: &mut NewState<O>,
 ) -> Result<(), UpdateFault>
     requires paths { are_ascending (map string_bytes paths.now) ≡ true }
-    ensures written { (body index : List ℕ) (stamps : List Stamp) (known before : List Known) →
-        S.model store.old ≡ Some body → HasLeft body known old.old →
-        HasBegun O.given new.old index stamps before → AllByRecursion IsOther (map known_of own.now) →
-        OnOk result ((others : List Known) × HasBegun O.given new.new index stamps (before ++ others)
+    ensures written { (seal : StateSeal) (body index : List ℕ) (stamps : List Stamp)
+        (known before : List Known) → S.model store.old ≡ Some body → HasLeft body known old.old →
+        HasBegun O.given seal new.old index stamps before → AllByRecursion IsOther (map known_of own.now) →
+        OnOk result ((others : List Known) × HasBegun O.given seal new.new index stamps (before ++ others)
         × AllByRecursion (IsOtherOf (set.from_list (map string_bytes paths.now)) known
         (map known_of own.now)) others) }
     ensures store { S.model store.new ≡ S.model store.old }

@@ -3,6 +3,7 @@ ghost use Rattle.std.specs.Prelude.{◌≡◌, ◌+◌, ◌-◌, ◌<◌, ◌++�
 ghost use Rattle.std.specs.List.{AllByRecursion, zip};
 ghost use Rattle.cs_update.specs.Cited.{are_ascending, after, before, merged, own_left, stamps_in, uncovered, HasBegun, HasStamps};
 ghost use Rattle.cs_tree.specs.PathSet as set;
+ghost use Rattle.cs_state.specs.declared.state_key.StateSeal.{StateSeal};
 ghost use Rattle.cs_tree.specs.declared.tree.Stamp.{Stamp};
 
 use crate::fault::UpdateFault;
@@ -33,8 +34,8 @@ impl<'a> OwnTexts<'a> {
         name: &str,
         new: &mut NewState<O>,
     ) -> Result<(), AllocError>
-        ensures written { (index : List ℕ) (stamps : List Stamp) → HasBegun O.given new.old index stamps [] →
-            OnOk result (HasBegun O.given new.new index
+        ensures written { (seal : StateSeal) (index : List ℕ) (stamps : List Stamp) →
+            HasBegun O.given seal new.old index stamps [] → OnOk result (HasBegun O.given seal new.new index
             (stamps ++ stamps_in (before name.now (own_left self.old))) []) }
         ensures left { OnOk result (own_left self.new ≡ after name.now (own_left self.old)) }
         ensures rest { (self.new.names ≡ self.old.names) × (self.new.stamps ≡ self.old.stamps) }
@@ -57,9 +58,9 @@ impl<'a> OwnTexts<'a> {
 
     /// Writes the stamps of the names that are left.
     fn write_rest<O: Output>(&self, new: &mut NewState<O>) -> Result<(), AllocError>
-        ensures { length self.now.names ≡ length self.now.stamps.now → (index : List ℕ)
-            (stamps : List Stamp) → HasBegun O.given new.old index stamps [] →
-            OnOk result (HasBegun O.given new.new index (stamps ++ stamps_in (own_left self.now)) []) }
+        ensures { length self.now.names ≡ length self.now.stamps.now → (seal : StateSeal) (index : List ℕ)
+            (stamps : List Stamp) → HasBegun O.given seal new.old index stamps [] → OnOk result
+            (HasBegun O.given seal new.new index (stamps ++ stamps_in (own_left self.now)) []) }
     {
         let from = (self.next as usize).min(self.stamps.len());
         new.stamps(&self.stamps[from..])?;
@@ -78,10 +79,10 @@ pub(crate) fn write_stamps<S: Store, O: Output>(
     new: &mut NewState<O>,
 ) -> Result<(), UpdateFault>
     requires { are_ascending (map string_bytes paths.now) ≡ true }
-    ensures written { length own.old.names ≡ length own.old.stamps.now → (body index : List ℕ)
-        (stamps : List Stamp) → S.model store.old ≡ Some body → HasStamps body stamps old.old →
-        HasBegun O.given new.old index [] [] →
-        OnOk result (HasBegun O.given new.new index (stamps_in (merged
+    ensures written { length own.old.names ≡ length own.old.stamps.now → (seal : StateSeal)
+        (body index : List ℕ) (stamps : List Stamp) → S.model store.old ≡ Some body →
+        HasStamps body stamps old.old → HasBegun O.given seal new.old index [] [] →
+        OnOk result (HasBegun O.given seal new.new index (stamps_in (merged
         (uncovered (set.from_list (map string_bytes paths.now)) (zip old.old.names stamps))
         (own_left own.old))) []) }
     ensures store { S.model store.new ≡ S.model store.old }

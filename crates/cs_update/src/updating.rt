@@ -1,7 +1,8 @@
 // A first state, and the update of one.
 ghost use Rattle.std.specs.Prelude.{◌≡◌, ◌∷◌, [], true, ℕ, List, Some, IfOk, length, map, string_bytes};
 ghost use Rattle.std.specs.List.{AllByRecursion};
-ghost use Rattle.cs_update.specs.Cited.{are_ascending, Snapshot, names_of, Parts, TablesIn, IsMerged, most_bytes, ProjectState, known_of, IsOther, AreWithin, HasBegun, IsOpenState, IsFirstState, IsUpdatedState, run_of, seen_by, IsMergedState, IsWritten};
+ghost use Rattle.cs_state.specs.Sums.{seal_of};
+ghost use Rattle.cs_update.specs.Cited.{are_ascending, Snapshot, names_of, Parts, TablesIn, IsMerged, most_bytes, ProjectState, known_of, IsOther, AreWithin, IsSummed, bytes_given, HasBegun, IsOpenState, IsFirstState, IsUpdatedState, run_of, seen_by, IsMergedState, IsWritten};
 
 use crate::call::UpdateCall;
 use crate::counted_output::CountedOutput;
@@ -28,12 +29,12 @@ pub fn first_state<T: Look, O: Output + Drop>(
 ) -> Result<O, UpdateFault>
     requires { O.given out ≡ [] }
     ensures first { (items : Snapshot) → T.snapshot tree.old ≡ Some items → IfOk result (λ out.
-        IsFirstState (run_of call.now items (T.stamps items)) (seen_by call.now) (O.given out)) }
+        IsFirstState call.now.key (run_of call.now items (T.stamps items)) (seen_by call.now) (O.given out)) }
     ensures keeps { T.snapshot tree.new ≡ T.snapshot tree.old }
 {
     let paths = root_path(call.alloc)?;
     let learned = learn_files(call, tree, &paths)?;
-    let out = write_learned(call.alloc, learned, out)?;
+    let out = write_learned(call, learned, out)?;
     Ok(out)
 }
 
@@ -48,20 +49,20 @@ fn root_path(alloc: Global) -> Result<Vec<String>, AllocError>
 
 /// Gives an output the state of what was learned.
 fn write_learned<O: Output + Drop>(
-    alloc: Global,
+    call: &UpdateCall<'_>,
     learned: Learned,
     out: O,
 ) -> Result<O, UpdateFault>
     requires { O.given out ≡ [] }
     ensures { AllByRecursion IsOther (map known_of learned.others.items) →
-        IfOk result (λ out. IsWritten learned (O.given out)) }
+        IfOk result (λ out. IsWritten (seal_of call.now.key call.now.moment) learned (O.given out)) }
 {
     let Learned {
         texts,
         stamps,
         others,
     } = learned;
-    let mut out = SummedOutput::new(alloc, CountedOutput::new(out));
+    let mut out = SummedOutput::new(call.alloc, CountedOutput::new(out), call.key, call.moment);
     match texts.finish_into(&mut out, u32::MAX) {
         Ok(_sent) => {}
         Err(BuildFault::TooLarge) => return Err(UpdateFault::TooLarge),
@@ -93,19 +94,19 @@ pub fn update_state<S: Store + Drop, T: Look, O: Output + Drop>(
     requires within { AreWithin state.lengths }
     ensures updated { (items : Snapshot) (old : ProjectState) → T.snapshot tree.old ≡ Some items →
         IsOpenState (S.model file) (⟦<FirstBytes<SummedBytes<S>> as Store>⟧.model state.bytes) state.lengths
-        state.index old → IfOk result (λ out. IsUpdatedState (run_of call.now items (T.stamps items))
-        (seen_by call.now) old (O.given out)) }
+        state.index old → IfOk result (λ out. IsUpdatedState call.now.key
+        (run_of call.now items (T.stamps items)) (seen_by call.now) old (O.given out)) }
     ensures keeps { T.snapshot tree.new ≡ T.snapshot tree.old }
 {
     let paths = own_paths(call.alloc, call.files)?;
     let learned = learn_files(call, tree, &paths)?;
-    let out = merge_learned(call.alloc, state, file, &paths, learned, out)?;
+    let out = merge_learned(call, state, file, &paths, learned, out)?;
     Ok(out)
 }
 
 /// Gives an output the old state with what was learned under these paths.
 fn merge_learned<S: Store + Drop, O: Output + Drop>(
-    alloc: Global,
+    call: &UpdateCall<'_>,
     state: StateFile<S>,
     file: S,
     paths: &[String],
@@ -119,8 +120,11 @@ fn merge_learned<S: Store + Drop, O: Output + Drop>(
         AllByRecursion IsOther (map known_of learned.others.items) →
         length (names_of learned.texts.entries) ≡ length learned.stamps.items → IsOpenState (S.model file)
         (⟦<FirstBytes<SummedBytes<S>> as Store>⟧.model state.bytes) state.lengths state.index old →
-        IfOk result (λ out. IsMergedState learned old (O.given out)) }
+        IfOk result (λ out.
+        IsMergedState (seal_of call.now.key call.now.moment) learned old (O.given out)) }
 {
+    let alloc = call.alloc;
+    let mut body = state.body(alloc, file);
     let StateFile {
         lengths,
         mut bytes,
@@ -141,10 +145,10 @@ fn merge_learned<S: Store + Drop, O: Output + Drop>(
     };
     let base = open_base(alloc, &mut bytes)?;
     let tables = base.tables();
+    let out = SummedOutput::new(alloc, CountedOutput::new(out), call.key, call.moment);
     let mut new = merge_indexes(alloc, &mut bytes, &tables, &newer, out)?;
     let start = lengths.index as u32;
     let middle = (lengths.index + lengths.stamps) as u32;
-    let mut body = SummedBytes::new(alloc, file, lengths.body);
     let mut old_texts = OldTexts {
         names: tables.name_table(),
         stamps: StampReader::new(alloc, start, middle),
@@ -186,15 +190,14 @@ fn merge_indexes<S: Store, O: Output + Drop>(
     store: &mut S,
     old: &Tables<'_>,
     newer: &Index<'_>,
-    out: O,
-) -> Result<NewState<CountedOutput<O>>, UpdateFault>
-    requires { O.given out ≡ [] }
+    mut out: SummedOutput<O>,
+) -> Result<NewState<O>, UpdateFault>
+    requires given { bytes_given O.given out ≡ [] }
+    requires summed { IsSummed O.given out }
     ensures { (bytes : List ℕ) (parts : Parts) → S.model store.old ≡ Some bytes →
         TablesIn bytes old.now parts → IfOk result (λ new. (index : List ℕ)
-        × IsMerged parts newer.now most_bytes index
-        × HasBegun ⟦<CountedOutput<O> as Output>⟧.given new index [] []) }
+        × IsMerged parts newer.now most_bytes index × HasBegun O.given out.seal new index [] []) }
 {
-    let mut out = SummedOutput::new(alloc, CountedOutput::new(out));
     match merge_stored(alloc, store, u32::MAX, old, newer, &mut out)? {
         Ok(_sent) => {}
         Err(fault) => return Err(UpdateFault::from(fault)),

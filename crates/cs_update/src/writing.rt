@@ -2,6 +2,7 @@
 ghost use Rattle.std.specs.Prelude.{◌≡◌, ◌<◌, ◌^◌, ◌++◌, ◌∷◌, [], ℕ, List, IfOk, OnOk, length, map};
 ghost use Rattle.cs_tree.specs.declared.tree.Stamp.{Stamp};
 ghost use Rattle.cs_update.specs.Cited.{Known, known_of, HasNumbers, IsOther, state_bytes, IsSummedIfWhole, bytes_given, HasBegun};
+ghost use Rattle.cs_state.specs.declared.state_key.StateSeal.{StateSeal};
 ghost use Rattle.std.specs.List.{AllByRecursion};
 
 use crate::fault::UpdateFault;
@@ -31,8 +32,9 @@ pub(crate) fn has_numbers(stamp: &Stamp)
 impl<O: Output> NewState<O> {
     /// Writes the stamp of the next name of the index.
     pub(crate) fn stamp(&mut self, stamp: &Stamp) -> Result<(), AllocError>
-        ensures { (index : List ℕ) (stamps : List Stamp) → HasBegun O.given self.old index stamps [] →
-            OnOk result (HasBegun O.given self.new index (stamps ++ stamp.now ∷ []) []) }
+        ensures { (seal : StateSeal) (index : List ℕ) (stamps : List Stamp) →
+            HasBegun O.given seal self.old index stamps [] →
+            OnOk result (HasBegun O.given seal self.new index (stamps ++ stamp.now ∷ []) []) }
     {
         has_numbers(stamp);
         self.writer.stamp(stamp)?;
@@ -42,9 +44,9 @@ impl<O: Output> NewState<O> {
 
     /// Writes the next file that is not in the index.
     pub(crate) fn other(&mut self, file: &OtherFile) -> Result<(), AllocError>
-        ensures { (index : List ℕ) (stamps : List Stamp) (others : List Known) →
-            HasBegun O.given self.old index stamps others → IsOther (known_of file.now) → OnOk result
-            (HasBegun O.given self.new index stamps (others ++ known_of file.now ∷ [])) }
+        ensures { (seal : StateSeal) (index : List ℕ) (stamps : List Stamp) (others : List Known) →
+            HasBegun O.given seal self.old index stamps others → IsOther (known_of file.now) → OnOk result
+            (HasBegun O.given seal self.new index stamps (others ++ known_of file.now ∷ [])) }
     {
         has_numbers(&file.stamp);
         let name = file.name.as_str();
@@ -56,8 +58,9 @@ impl<O: Output> NewState<O> {
 
     /// Writes stamps one after another.
     pub(crate) fn stamps(&mut self, all: &[Stamp]) -> Result<(), AllocError>
-        ensures { (index : List ℕ) (stamps : List Stamp) → HasBegun O.given self.old index stamps [] →
-            OnOk result (HasBegun O.given self.new index (stamps ++ all.now) []) }
+        ensures { (seal : StateSeal) (index : List ℕ) (stamps : List Stamp) →
+            HasBegun O.given seal self.old index stamps [] →
+            OnOk result (HasBegun O.given seal self.new index (stamps ++ all.now) []) }
     {
         'stamps: for stamp in all {
             self.stamp(stamp)?;
@@ -67,9 +70,10 @@ impl<O: Output> NewState<O> {
 
     /// Writes files that are not in the index one after another.
     pub(crate) fn others(&mut self, files: &[OtherFile]) -> Result<(), AllocError>
-        ensures { (index : List ℕ) (stamps : List Stamp) (others : List Known) →
-            HasBegun O.given self.old index stamps others → AllByRecursion IsOther (map known_of files.now) →
-            OnOk result (HasBegun O.given self.new index stamps (others ++ map known_of files.now)) }
+        ensures { (seal : StateSeal) (index : List ℕ) (stamps : List Stamp) (others : List Known) →
+            HasBegun O.given seal self.old index stamps others →
+            AllByRecursion IsOther (map known_of files.now) → OnOk result
+            (HasBegun O.given seal self.new index stamps (others ++ map known_of files.now)) }
     {
         'files: for file in files {
             self.other(file)?;
@@ -82,7 +86,7 @@ impl<O: Output + Drop> NewState<O> {
     /// A state whose index was written.
     pub(crate) fn new(out: SummedOutput<O>) -> Result<NewState<O>, AllocError>
         requires { IsSummedIfWhole O.given out }
-        ensures { IfOk result (λ new. HasBegun O.given new (bytes_given O.given out) [] []) }
+        ensures { IfOk result (λ new. HasBegun O.given out.seal new (bytes_given O.given out) [] []) }
     {
         let writer = StateWriter::new(out)?;
         Ok(NewState { writer, len: 0 })
@@ -90,9 +94,9 @@ impl<O: Output + Drop> NewState<O> {
 
     /// Writes the end of the state.
     pub(crate) fn finish(self) -> Result<O, UpdateFault>
-        ensures { (index : List ℕ) (stamps : List Stamp) (others : List Known) →
-            HasBegun O.given self index stamps others → length index < 2 ^ 32 →
-            IfOk result (λ out. O.given out ≡ state_bytes index stamps others) }
+        ensures { (seal : StateSeal) (index : List ℕ) (stamps : List Stamp) (others : List Known) →
+            HasBegun O.given seal self index stamps others → length index < 2 ^ 32 →
+            IfOk result (λ out. O.given out ≡ state_bytes seal index stamps others) }
     {
         let NewState { writer, len } = self;
         if len > u32::MAX as u64 {

@@ -1,7 +1,7 @@
 // A state that is written, opened, and asked for the files of a walk.
 use cs_index::Builder;
 use cs_known::{FileLookup, SkipOptions, StoredFiles};
-use cs_state::{StateFile, StateWriter, SummedOutput, Unindexed};
+use cs_state::{StateFile, StateKey, StateWriter, SummedOutput, Unindexed};
 use cs_tree::{MemStore, Output, Stamp};
 use cs_trigram::Query;
 use std::alloc::Global;
@@ -9,6 +9,9 @@ use std::test::Fail;
 
 /// The trigram of `abc`.
 const ABC: u32 = 0x616263;
+
+/// The secret of the user.
+const SECRET: [u8; 32] = [7; 32];
 
 fn stamp(inode: u64) -> Stamp {
     Stamp {
@@ -28,7 +31,7 @@ fn state(alloc: Global) -> Result<Vec<u8>, Fail> {
     let mut builder = Builder::new(alloc, &root)?;
     let _a = builder.add("/a", &[0x626364])?;
     let _c = builder.add("/b/c", &[ABC])?;
-    let mut out = SummedOutput::new(alloc, Vec::new(alloc));
+    let mut out = SummedOutput::new(alloc, Vec::new(alloc), StateKey::new(&SECRET), 6);
     out.append(&builder.finish()?)?;
     let mut writer = StateWriter::new(out)?;
     writer.stamp(&stamp(1))?;
@@ -45,7 +48,8 @@ fn files_of<'b>(
     options: SkipOptions,
     query: &Query,
 ) -> Result<Option<StoredFiles<MemStore<'b>>>, Fail> {
-    let Some(file) = StateFile::open(alloc, MemStore::new(bytes, 1 << 16))? else {
+    let key = StateKey::new(&SECRET);
+    let Some(file) = StateFile::open(alloc, MemStore::new(bytes, 1 << 16), key)? else {
         return Ok(None);
     };
     let store = MemStore::new(bytes, 1 << 16);
@@ -131,6 +135,32 @@ fn files_of_a_walk(rt: HostRuntime) -> Result<(), Fail> {
             let found = files.find(name, &stamp(*inode))?;
             assert!(rt; found == want[column], "{name} {column}");
         }
+    }
+    Ok(())
+}
+
+/// Whether a state opens with this secret.
+fn opens(alloc: Global, bytes: &[u8], secret: &[u8; 32]) -> Result<bool, Fail> {
+    let store = MemStore::new(bytes, 1 << 16);
+    Ok(StateFile::open(alloc, store, StateKey::new(secret))?.is_some())
+}
+
+#[test]
+fn states_of_others(rt: HostRuntime) -> Result<(), Fail> {
+    let alloc = rt.alloc();
+    let bytes = state(alloc)?;
+    assert!(rt; opens(alloc, &bytes, &SECRET)?);
+    // A multiplier has its lowest bit set in any case.
+    for (at, bit) in [(0, 2), (7, 128), (8, 2), (15, 128), (16, 1), (31, 128)] {
+        let mut other = SECRET;
+        other[at] ^= bit;
+        assert!(rt; !opens(alloc, &bytes, &other)?, "{at}");
+    }
+    // There is one piece before the last, and both are read.
+    for at in 0..bytes.len() {
+        let mut other = Vec::from_slice(alloc, &bytes)?;
+        other[at] ^= 128;
+        assert!(rt; !opens(alloc, &other, &SECRET)?, "{at}");
     }
     Ok(())
 }

@@ -10,7 +10,7 @@ returns g c = λ all are.
     let index : List ℕ = c.in-Ok._sent.bytes in (
       index,
       subst (IsJoinAnswer all most_bytes) c.in-Ok.is (answer.joined all are),
-      begun_at _ c.in_ok-new.new _ index
-          (subst (IsGivenIndex _ _) c.in-Ok.is answer.given ∙ ap (λ (b : List ℕ). b ++ index) c.new-out.ensures.given)
+      begun_at _ c.in_ok-new.new _ _ _ index c.join_stored.ensures.keeps_out.2
+          (subst (IsGivenIndex _ _) c.in-Ok.is answer.given ∙ ap (λ (b : List ℕ). b ++ index) c.requires.given)
           c.in_ok-new.ensures,
     )

@@ -15,24 +15,24 @@ use Rattle.cs_update.proofs.others.write_others.Goals as goal
 pub files-init : goal.files-init
 files-init g c = record {
   store = refl;
-  written = λ body index stamps known before m has begun each. (
+  written = λ seal body index stamps known before m has begun each. (
     has,
     all_listed (map known_of c.args.own.now) (map known_of c.args.own.now) (λ one is. is) each,
-    ([], subst (HasBegun g.O.Output.given c.args.new.now index stamps) (sym (append-nil before)) begun, tt),
+    ([], subst (HasBegun g.O.Output.given seal c.args.new.now index stamps) (sym (append-nil before)) begun, tt),
   );
 }
 
 pub returns-in_default : goal.returns-in_default
 returns-in_default g c = record {
   store = c.next.ensures.store.0 ∙ c.files.invariant.store;
-  written = λ body index stamps known before m has begun each.
-      let w = c.files.invariant.written body index stamps known before m has begun each in
+  written = λ seal body index stamps known before m has begun each.
+      let w = c.files.invariant.written seal body index stamps known before m has begun each in
       let own = map known_of c.args.own.now in
       let rest = map known_of c.files.rest.now in
       let IsRight = IsOtherOf (set.from_list (map string_bytes c.args.paths.now)) known own in (
         w.2.0 ++ rest,
-        subst (HasBegun g.O.Output.given c.others.new.self index stamps) (append_assoc before w.2.0 rest)
-            (c.in_ok-others.ensures index stamps (before ++ w.2.0) w.2.1
+        subst (HasBegun g.O.Output.given seal c.others.new.self index stamps) (append_assoc before w.2.0 rest)
+            (c.in_ok-others.ensures seal index stamps (before ++ w.2.0) w.2.1
             (all_so (λ one. IsOther one × IsListed one own) IsOther (λ one both. both.0) rest w.1)),
         all_joined IsRight w.2.0 rest w.2.2 (all_so (λ one. IsOther one × IsListed one own) IsRight (λ one both. inr both.1) rest w.1),
       );
@@ -43,8 +43,8 @@ files-preserved-then-is_covered g c =
     let is = c.files.invariant in
     record {
       store = c.next.ensures.store.0 ∙ is.store;
-      written = λ body index stamps known before m has begun each.
-          let w = is.written body index stamps known before m has begun each in
+      written = λ seal body index stamps known before m has begun each.
+          let w = is.written seal body index stamps known before m has begun each in
           let left = flat_map other_bytes w.0.rest in
           let next = subst (IsNextOther body left c.next.new.self) c.in-Some.is (c.in_ok-file.ensures.next body left (is.store ∙ m) w.0.reads) in
           let read = next_known body known c.next.new.self c.files.old w.0 (Some c.in-Some.file) next in
@@ -59,14 +59,14 @@ files-preserved g c =
     let one = known_of file in
     record {
       store = c.next.ensures.store.0 ∙ is.store;
-      written = λ body index stamps known before m has begun each.
-          let w = is.written body index stamps known before m has begun each in
+      written = λ seal body index stamps known before m has begun each.
+          let w = is.written seal body index stamps known before m has begun each in
           let own = map known_of c.args.own.now in
           let left = flat_map other_bytes w.0.rest in
           let next = subst (IsNextOther body left c.next.new.self) c.in-Some.is (c.in_ok-file.ensures.next body left (is.store ∙ m) w.0.reads) in
           let read = next_known body known c.next.new.self c.files.old w.0 (Some file) next in
           let rest = map known_of c.files.rest.now in
-          let given = c.in_ok-rest.ensures index stamps (before ++ w.2.0) w.2.1
+          let given = c.in_ok-rest.ensures seal index stamps (before ++ w.2.0) w.2.1
           (all_so (λ one. IsOther one × IsListed one own) IsOther (λ one both. both.0) rest w.1) in
           let parts = all_split (λ one. IsOther one × IsListed one own) given.0 (map known_of c.in_ok-rest.rest.now)
           (subst (AllByRecursion (λ one. IsOther one × IsListed one own)) given.1 w.1) in
@@ -77,9 +77,9 @@ files-preserved g c =
             parts.1,
             (
               (w.2.0 ++ given.0) ++ one ∷ [],
-              subst (HasBegun g.O.Output.given c.other.new.self index stamps)
+              subst (HasBegun g.O.Output.given seal c.other.new.self index stamps)
                   (ap (λ (l : List Known). l ++ one ∷ []) (append_assoc before w.2.0 given.0) ∙ append_assoc before (w.2.0 ++ given.0) (one ∷ []))
-                  (c.in_ok-other.ensures index stamps ((before ++ w.2.0) ++ given.0) given.2 next.1.0),
+                  (c.in_ok-other.ensures seal index stamps ((before ++ w.2.0) ++ given.0) given.2 next.1.0),
               all_joined IsRight (w.2.0 ++ given.0) (one ∷ [])
                   (all_joined IsRight w.2.0 given.0 w.2.2
                   (all_so (λ one. IsOther one × IsListed one own) IsRight (λ one both. inr both.1) given.0 parts.0))

@@ -21,8 +21,8 @@ ids-preserved-then-is_covered g c =
       stamps = is.stamps;
       old = is.old;
       store = is.store;
-      written = λ body index stamps m has begun.
-          let w = is.written body index stamps m has begun in (
+      written = λ seal body index stamps m has begun.
+          let w = is.written seal body index stamps m has begun in (
             w.0,
             (
               w.1.0,
@@ -49,8 +49,8 @@ ids-preserved g c =
       stamps = before_it.rest.1 ∙ is.stamps;
       old = is.old;
       store = c.read.ensures.store.0 ∙ is.store;
-      written = λ body index stamps m has begun.
-          let w = is.written body index stamps m has begun in
+      written = λ seal body index stamps m has begun.
+          let w = is.written seal body index stamps m has begun in
           let done = w.1.0 in
           let first = stamps_in (before name own) in
           let it = step paths names stamps has.count id name at in
@@ -67,8 +67,8 @@ ids-preserved g c =
             },
             (
               (done ++ first) ++ it.0 ∷ [],
-              subst (λ s. HasBegun g.O.Output.given c.stamp.new.self index ((done ++ first) ++ s ∷ []) []) same
-                  (c.in_ok-stamp-2.ensures index (done ++ first) (before_it.written index done w.1.1)),
+              subst (λ s. HasBegun g.O.Output.given seal c.stamp.new.self index ((done ++ first) ++ s ∷ []) []) same
+                  (c.in_ok-stamp-2.ensures seal index (done ++ first) (before_it.written seal index done w.1.1)),
               ap (λ o. ((done ++ first) ++ it.0 ∷ []) ++ stamps_in (merged more o)) before_it.left
                   ∙ one_more done _ name it.0 more own
                   (ap (λ l. done ++ stamps_in (merged l own))
@@ -78,12 +78,12 @@ ids-preserved g c =
     }
 
 pub returns-clause-written : goal.returns-clause-written
-returns-clause-written g c = λ same body index stamps m has begun.
+returns-clause-written g c = λ same seal body index stamps m has begun.
     let is = c.ids.invariant in
     let names = c.args.old.now.names in
     let paths = set.from_list (map string_bytes c.args.paths.now) in
-    let w = is.written body index stamps m has begun in
+    let w = is.written seal body index stamps m has begun in
     let len = c.len-id-end.ensures in
-    subst (λ l. HasBegun g.O.Output.given c.write_rest.new.new index l [])
+    subst (λ l. HasBegun g.O.Output.given seal c.write_rest.new.new index l [])
     (ap (λ l. w.1.0 ++ l) (sym (last paths names stamps has.count c.ids.id (own_left c.ids.own) (omega (arith, c.ids-test.false, len)))) ∙ w.1.2)
-    (c.in_ok-write_rest.ensures (ap length is.names ∙ same ∙ sym (ap (λ s. length s.now) is.stamps)) index w.1.0 w.1.1)
+    (c.in_ok-write_rest.ensures (ap length is.names ∙ same ∙ sym (ap (λ s. length s.now) is.stamps)) seal index w.1.0 w.1.1)

@@ -7,6 +7,7 @@ use Rattle.cs_index.specs.Built.{path_set}
 use Rattle.cs_index.specs.Encoding.{names_of}
 use Rattle.cs_merge.proofs.DecodedContentLemmas.{set_of_items}
 use Rattle.cs_state.specs.ProjectStates.{IsOther}
+use Rattle.cs_state.specs.Sums.{seal_of}
 use Rattle.cs_update.specs.Learning.{all_learned, run_of, seen_by}
 use Rattle.cs_update.specs.Updating.{IsUpdateOf, paths_seen}
 use Rattle.cs_update.proofs.FirstLemmas.{as_many, others_are, update_of}
@@ -27,8 +28,8 @@ returns-clause-updated g c = λ items old m was.
     let paths : path_set learned.texts ≡ paths_seen seen = ap set.from_list
     (c.in_ok-learned.ensures.paths ∙ ap (map string_bytes) c.deref.ensures.value ∙ c.in_ok-paths.ensures)
     ∙ sym (set_of_items (paths_seen seen)) in
-    subst (λ ps. IsUpdateOf run seen ps old (g.O.Output.given c.in_ok-out.out)) paths
-    (update_of run seen learned has old _ (c.in_ok-out.ensures old
+    subst (λ ps. IsUpdateOf c.args.call.now.key run seen ps old (g.O.Output.given c.in_ok-out.out)) paths
+    (update_of run seen learned has (seal_of c.args.call.now.key c.args.call.now.moment) old _ (c.in_ok-out.ensures old
     (c.in_ok-learned.ensures.paths ∙ ap (map string_bytes) (c.deref.ensures.value ∙ sym c.deref-2.ensures.value))
     (subst (AllByRecursion IsOther) (sym has.others) (others_are files has.names))
     (ap (λ es. length (names_of es)) has.texts ∙ as_many files ∙ sym (ap length has.stamps)) was))

@@ -6,7 +6,7 @@ use Rattle.cs_known.proofs.StateLemmas.{body_model, first_indexed, first_others,
 use Rattle.cs_known.proofs.skipping.StoredFiles+S.open.Goals as goal
 
 pub returns-clause-knows : goal.returns-clause-knows
-returns-clause-knows g c bytes known m has is =
+returns-clause-knows g c key bytes known m has is =
     let lengths = c.args.state.lengths in
     let stored = c.args.state.index in
     let query = c.args.query.now in
@@ -22,8 +22,8 @@ returns-clause-knows g c bytes known m has is =
       stamps = c.new.result;
       candidates = c.in-Ok-Ok.candidates;
     } in
-    let body_now : option_map (take c.new-body.result.len) (g.S.Store.model c.new-body.result.store) ≡ Some body =
-    (λ j. option_map (take (c.new-body.ensures.len j)) (g.S.Store.model (c.new-body.ensures.store j)))
+    let body_now : option_map (take c.body-body.result.len) (g.S.Store.model c.body-body.result.store) ≡ Some body =
+    (λ j. option_map (take (c.body-body.ensures.len j)) (g.S.Store.model (c.body-body.ensures.store j)))
     ∙ ap (λ (o : Option (List ℕ)). option_map (take lengths.body) o) m ∙ body_model bytes known is _ lengths stored has in
     record {
       index = is.index;

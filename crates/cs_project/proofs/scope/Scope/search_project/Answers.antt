@@ -1,5 +1,4 @@
 use Rattle.std.proofs.Common.{false}
-use Rattle.cs_listing.specs.FolderReads.{InTree}
 use Rattle.cs_project.specs.declared.fault.FreshFault.{FreshFault}
 use Rattle.cs_project.specs.Scopes.{unread}
 use Rattle.cs_project.proofs.ProjectLemmas.{if_ok, project_searched, search_begun}

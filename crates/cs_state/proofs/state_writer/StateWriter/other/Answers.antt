@@ -6,11 +6,11 @@ use Rattle.cs_state.proofs.state_writer.StateWriter.other.Goals as goal
 
 pub returns : goal.returns
 unfolding other_bytes
-returns g c = λ index stamps others written.
+returns g c = λ seal index stamps others written.
     let stamp = c.args.stamp.now in
     let name = c.as_bytes.result.now in
     let bytes = (name ++ 0 ∷ c.byte.result ∷ []) ++ stamp_bytes stamp in
-    other_written g.O.Output.given c.args.self.now c.append_stamp.new.self bytes c.append_stamp.result index stamps others
+    other_written g.O.Output.given seal c.args.self.now c.append_stamp.new.self bytes c.append_stamp.result index stamps others
     (other_of c.args.name.now c.args.kept stamp) written
     (append_assoc name (0 ∷ c.byte.result ∷ []) (stamp_bytes stamp) ∙ (λ i. c.as_bytes.ensures.value i ++ 0 ∷ c.byte.ensures i ∷ stamp_bytes stamp))
     (appends_last g.O.Output.given c.args.self.now _ c.append_stamp.new.self (name ++ 0 ∷ c.byte.result ∷ []) (stamp_bytes stamp) c.append_stamp.result

@@ -3,9 +3,10 @@ use Rattle.cs_state.proofs.WriterLemmas.{stamp_more, stamps_len_more}
 use Rattle.cs_state.proofs.state_writer.StateWriter.stamp.Goals as goal
 
 pub returns : goal.returns
-returns g c = λ index stamps written.
+returns g c = λ seal index stamps written.
     let appended = c.in_ok-append_stamp.ensures in
     record {
+      seal_is = appended.seal ∙ written.seal_is;
       bytes = stamp_more index _ _ stamps c.args.stamp.now written.bytes appended.grew;
       summed = appended.summed written.summed;
       index_len = appended.index_len ∙ written.index_len;

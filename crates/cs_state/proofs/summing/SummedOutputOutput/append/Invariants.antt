@@ -8,6 +8,7 @@ invariant-pieces g l = record {
   whole : l.self.whole ≡ false;
   before : l.whole ≡ l.fn.self.whole;
   summed : IsSummed g.O.Output.given l.fn.self → IsSummed g.O.Output.given l.self;
+  seal : l.self.seal ≡ l.fn.self.seal;
   keeps : g.O.Output.Keeps l.fn.self.out l.self.out;
 }
 

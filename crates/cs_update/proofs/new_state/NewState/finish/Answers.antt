@@ -3,6 +3,6 @@ use Rattle.cs_update.proofs.WritingLemmas.{body_short}
 use Rattle.cs_update.proofs.new_state.NewState.finish.Goals as goal
 
 pub returns : goal.returns
-returns g c = λ index stamps others has short.
-    c.in_ok-out.ensures index stamps others has.written
+returns g c = λ seal index stamps others has short.
+    c.in_ok-out.ensures seal index stamps others has.written
     (body_short index stamps others c.args.self.len has.len (omega (arith, c.if-len.false)) short)

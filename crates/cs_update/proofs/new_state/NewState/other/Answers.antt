@@ -7,12 +7,12 @@ use Rattle.cs_update.proofs.WritingLemmas.{all_more, other_counted}
 use Rattle.cs_update.proofs.new_state.NewState.other.Goals as goal
 
 pub returns : goal.returns
-returns g c = λ index stamps others has is.
+returns g c = λ seal index stamps others has is.
     let file = c.args.file.now in
     let one = known_of file in
     record {
-      written = subst (λ name. HasWritten g.O.Output.given c.other.new.self index stamps (others ++ other_of name file.kept file.stamp ∷ []))
-          c.as_str-name.ensures.value (c.in_ok-other.ensures index stamps others has.written);
+      written = subst (λ name. HasWritten g.O.Output.given seal c.other.new.self index stamps (others ++ other_of name file.kept file.stamp ∷ []))
+          c.as_str-name.ensures.value (c.in_ok-other.ensures seal index stamps others has.written);
       each_stamp = has.each_stamp;
       each_other = all_more IsOther others one has.each_other is;
       each_number = all_more (λ o. HasNumbers o.stamp) others one has.each_number c.has_numbers.ensures;

@@ -5,9 +5,10 @@ use Rattle.cs_state.specs.Known.{Known}
 use Rattle.cs_state.specs.OtherReaders.{known_of}
 use Rattle.cs_state.specs.ProjectStates.{IsOther}
 use Rattle.cs_update.specs.NewStates.{HasBegun}
+use Rattle.cs_state.specs.declared.state_key.StateSeal.{StateSeal}
 use Rattle.cs_update.proofs.new_state.NewState.others.Given as goal
 
 abbrev pub invariant-files : goal.invariant-files
-invariant-files g l = (index : List ℕ) (stamps : List Stamp) (others : List Known) → HasBegun g.O.Output.given l.fn.self index stamps others →
+invariant-files g l = (seal : StateSeal) (index : List ℕ) (stamps : List Stamp) (others : List Known) → HasBegun g.O.Output.given seal l.fn.self index stamps others →
     AllByRecursion IsOther (map known_of l.files) →
-    HasBegun g.O.Output.given l.self index stamps (others ++ map known_of (take l.file-index l.files))
+    HasBegun g.O.Output.given seal l.self index stamps (others ++ map known_of (take l.file-index l.files))

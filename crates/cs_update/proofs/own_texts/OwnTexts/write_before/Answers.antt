@@ -9,12 +9,12 @@ use Rattle.cs_update.proofs.TextLemmas.{all_done, goes_on, stops_name, stops_now
 use Rattle.cs_update.proofs.own_texts.OwnTexts.write_before.Goals as goal
 
 pub returns-in_default-clause-written : goal.returns-in_default-clause-written
-returns-in_default-clause-written g c = λ index stamps has.
+returns-in_default-clause-written g c = λ seal index stamps has.
     let self = c.names.self in
-    let w = c.names.invariant.written index stamps has in
+    let w = c.names.invariant.written seal index stamps has in
     let stops = stops_nowhere c.args.name.now (own_left self) (zip_none self.names self.stamps.now self.next
     (sym c.name.ensures ∙ ap option_copied c.in_default.is)) in
-    subst (λ d. HasBegun g.O.Output.given c.names.new index (stamps ++ d) [])
+    subst (λ d. HasBegun g.O.Output.given seal c.names.new index (stamps ++ d) [])
     (all_done c.args.name.now (own_left self) w.0 (stamps_in (before c.args.name.now (own_left c.args.self.now))) stops w.2) w.1
 
 pub returns-in_default-clause-left : goal.returns-in_default-clause-left
@@ -25,13 +25,13 @@ returns-in_default-clause-left g c =
     sym stops.1 ∙ c.names.invariant.left
 
 pub returns-then-not-is_lt-clause-written : goal.returns-then-not-is_lt-clause-written
-returns-then-not-is_lt-clause-written g c = λ index stamps has.
+returns-then-not-is_lt-clause-written g c = λ seal index stamps has.
     let self = c.names.self in
-    let w = c.names.invariant.written index stamps has in
+    let w = c.names.invariant.written seal index stamps has in
     let stops = stops_name c.args.name.now self.names self.stamps.now self.next c.in-Some.own.now
     (sym c.name.ensures ∙ ap option_copied c.in-Some.is)
     (sym (c.is_lt.ensures ∙ ap is_lt c.cmp.ensures) ∙ c.if-not-is_lt.true) in
-    subst (λ d. HasBegun g.O.Output.given c.names.new index (stamps ++ d) [])
+    subst (λ d. HasBegun g.O.Output.given seal c.names.new index (stamps ++ d) [])
     (all_done c.args.name.now (own_left self) w.0 (stamps_in (before c.args.name.now (own_left c.args.self.now))) stops w.2) w.1
 
 pub returns-then-not-is_lt-clause-left : goal.returns-then-not-is_lt-clause-left
@@ -43,11 +43,11 @@ returns-then-not-is_lt-clause-left g c =
     sym stops.1 ∙ c.names.invariant.left
 
 pub returns-in_default-get-clause-written : goal.returns-in_default-get-clause-written
-returns-in_default-get-clause-written g c = λ index stamps has.
+returns-in_default-get-clause-written g c = λ seal index stamps has.
     let self = c.names.self in
-    let w = c.names.invariant.written index stamps has in
+    let w = c.names.invariant.written seal index stamps has in
     let stops = stops_nowhere c.args.name.now (own_left self) (zip_beyond self.names self.stamps.now self.next c.in_default-get.ensures.lookup.3) in
-    subst (λ d. HasBegun g.O.Output.given c.names.new index (stamps ++ d) [])
+    subst (λ d. HasBegun g.O.Output.given seal c.names.new index (stamps ++ d) [])
     (all_done c.args.name.now (own_left self) w.0 (stamps_in (before c.args.name.now (own_left c.args.self.now))) stops w.2) w.1
 
 pub returns-in_default-get-clause-left : goal.returns-in_default-get-clause-left
@@ -70,23 +70,23 @@ names-preserved g c =
     record {
       names = c.names.invariant.names;
       stamps = c.names.invariant.stamps;
-      written = λ index stamps has.
-          let w = c.names.invariant.written index stamps has in (
+      written = λ seal index stamps has.
+          let w = c.names.invariant.written seal index stamps has in (
             w.0 ++ stamp ∷ [],
-            subst (λ l. HasBegun g.O.Output.given c.stamp.new.self index l []) (append_assoc stamps w.0 (stamp ∷ []))
-                (c.in_ok-stamp.ensures index (stamps ++ w.0) w.1),
+            subst (λ l. HasBegun g.O.Output.given seal c.stamp.new.self index l []) (append_assoc stamps w.0 (stamp ∷ []))
+                (c.in_ok-stamp.ensures seal index (stamps ++ w.0) w.1),
             append_assoc w.0 (stamp ∷ []) (stamps_in (before name rest)) ∙ ap (λ l. w.0 ++ stamps_in l) (sym on.0) ∙ w.2,
           );
       left = sym on.1 ∙ c.names.invariant.left;
     }
 
 pub returns-clause-written : goal.returns-clause-written
-returns-clause-written g c = λ index stamps has.
+returns-clause-written g c = λ seal index stamps has.
     let self = c.names.self in
     let len = c.len.ensures in
-    let w = c.names.invariant.written index stamps has in
+    let w = c.names.invariant.written seal index stamps has in
     let stops = stops_nowhere c.args.name.now (own_left self) (zip_end self.names self.stamps.now self.next (omega (arith, c.names-test.false, len))) in
-    subst (λ d. HasBegun g.O.Output.given c.names.new index (stamps ++ d) [])
+    subst (λ d. HasBegun g.O.Output.given seal c.names.new index (stamps ++ d) [])
     (all_done c.args.name.now (own_left self) w.0 (stamps_in (before c.args.name.now (own_left c.args.self.now))) stops w.2) w.1
 
 pub returns-clause-left : goal.returns-clause-left

@@ -5,12 +5,12 @@ use Rattle.cs_update.proofs.TextLemmas.{zip_rest}
 use Rattle.cs_update.proofs.own_texts.OwnTexts.write_rest.Goals as goal
 
 pub returns : goal.returns
-returns g c = λ same index stamps has.
+returns g c = λ same seal index stamps has.
     let self = c.args.self.now in
     let all = self.stamps.now in
     let from = c.min-from.result in
     let left = length-drop from all in
     let rest : take (length all - from) (drop from all) ≡ drop from all = take_all (length all - from) (drop from all) (omega (arith, left)) in
-    subst (λ l. HasBegun g.O.Output.given c.stamps.new.self index (stamps ++ l) [])
+    subst (λ l. HasBegun g.O.Output.given seal c.stamps.new.self index (stamps ++ l) [])
     (rest ∙ ap (λ n. drop n all) c.min-from.ensures ∙ drop_min self.next all ∙ sym (zip_rest self.names all self.next same))
-    (c.in_ok-stamps.ensures index stamps has)
+    (c.in_ok-stamps.ensures seal index stamps has)

@@ -11,5 +11,5 @@ returns g c = λ states state bytes is_open file again is.
     (from_some _ _ is.index (index_model bytes state is _ found.lengths found.index has) c.in_ok-index.ensures.opens) in
     open_more c.args.self.now _ states state bytes is _ found.lengths found.index c.in-Ok.index _ opened.0
     is_open has (from_ok _ c.in_ok-index.field-0 c.in-Ok.index c.in-Ok.is c.in_ok-index.ensures.model) opened.1
-    ((λ j. option_map (take (c.new-bytes.ensures.len j)) (g.S.Store.model (c.new-bytes.ensures.store j)))
+    ((λ j. option_map (take (c.body-body.ensures.len j)) (g.S.Store.model (c.body-body.ensures.store j)))
     ∙ ap (λ o. option_map (take found.lengths.body) o) again) refl c.in_ok-push.ensures.items c.in_ok-push-2.ensures.items

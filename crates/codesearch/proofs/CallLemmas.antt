@@ -369,10 +369,6 @@ pub of_known : (model : Option (List ℕ)) (index : Option (List ℕ)) (Claim : 
 of_known None index Claim is claim = absurd is
 of_known (Some bytes) index Claim is claim = subst Claim (sym is) claim
 
-pub if_some : {T : Type 0} (o : Option T) (P Q : T → Type 0) → ((x : T) → P x → Q x) → IfSome o P → IfSome o Q
-if_some None P Q on p = tt
-if_some (Some x) P Q on p = on x p
-
 pub if_ok : {T E : Type 0} (r : Result T E) (P Q : T → Type 0) → ((x : T) → P x → Q x) → IfOk r P → IfOk r Q
 if_ok (Ok x) P Q on p = on x p
 if_ok (Err fault) P Q on p = tt

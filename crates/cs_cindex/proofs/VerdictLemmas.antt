@@ -1,9 +1,8 @@
 -- The verdict on a file, from the item at its name.
 use Rattle.std.proofs.Common.{◌≡◌, ◌≢◌, ℕ, Bool, List, [], refl, sym, subst, ◌∙◌, Option, Some, None, Result, Ok, Err, Bor}
-use Rattle.cs_cindex.proofs.Common.{IsOkAnd, count_if, Snapshot, Item, folder, file, cut, item_at, read_item, Failed, opening_line, finding_line, Verdict, verdict_trigrams, verdict_line, IsVerdict, IsVerdictIn}
+use Rattle.cs_cindex.proofs.Common.{IsOkAnd, Snapshot, Item, folder, file, cut, item_at, read_item, Failed, opening_line, finding_line, Verdict, verdict_trigrams, verdict_line, IsVerdict, IsVerdictIn}
 use Rattle.cs_tree.specs.TreeAnswers.{opening_of}
-use Rattle.cs_tree.specs.Trees.{is_tree_failure}
-use Rattle.cs_args.specs.FileFaults.{file_fault_of, is_file_failure}
+use Rattle.cs_args.specs.FileFaults.{file_fault_of}
 use Rattle.cs_trigram.specs.Scans.{ScanOutcome, skipped_or, scan_outcome, ReportsScan, IsScanOf, text, read_failed}
 use Rattle.cs_tree.specs.StreamModels.{SourceModel}
 use Rattle.cs_tree.specs.Trees.{OpensFile, OpensFileAs}
@@ -62,11 +61,6 @@ refused_at tree.Memory opening later not o = absurd (not refl)
 refused_at _ opening later not o = o.0
 
 -- a failed call is reported by the diagnostic
-pub open_counted : (fault : TreeFault) (n : ℕ) → fault ≢ tree.Memory → count_if (is_tree_failure fault) n
-    ≡ count_if (is_file_failure (file_fault_of fault)) n
-open_counted tree.Memory n not = absurd (not refl)
-open_counted _ n not = refl
-
 pub verdict_refused : (snapshot : Option Snapshot) (name : List ℕ) (fault : TreeFault) (later : Option SourceModel) →
     fault ≢ tree.Memory → OpensFile {A = Unit {0}} snapshot name (Err fault) later →
     IsVerdictIn snapshot name (Err (file_fault_of fault))

@@ -1,7 +1,7 @@
 -- Texts and their patterns.
 use Rattle.std.proofs.Common.{◌≡◌, ℕ, ◌+◌, ◌<◌, ◌≤◌, Bool, true, false, ◌||◌, List, [], ◌∷◌, length, drop, get_or, map, refl, ap, ◌∙◌, arith}
 use Rattle.std.specs.Prelude.{if◌then◌else◌, Result, Ok, Err}
-use Rattle.std.proofs.lemmas.Bool.{le-ltb, lt-ltb}
+use Rattle.std.proofs.lemmas.Bool.{le-ltb}
 use Rattle.std.proofs.lemmas.List.{at_drop_all, at_drop_more}
 use Rattle.cs_syntax.specs.Matching.{Tree}
 use Rattle.cs_syntax.specs.Joining.{either, pattern_of}
@@ -35,9 +35,6 @@ other_byte literal escaped byte bytes is = ap (λ b. b || has_capital_after lite
 
 light : (t : Tree) → weight t ≤ max_weight → pattern_of t ≡ Ok t
 light t h = ap (λ b. if b then Err (record { fault = TooLarge; at = 0 }) else Ok t) (le-ltb max_weight (weight t) h)
-
-heavy : (t : Tree) → max_weight < weight t → pattern_of t ≡ Err (record { fault = TooLarge; at = 0 })
-heavy t h = ap (λ b. if b then Err (record { fault = TooLarge; at = 0 }) else Ok t) (lt-ltb max_weight (weight t) h)
 
 -- ---- joined patterns
 

@@ -1,5 +1,5 @@
 -- Lists of jobs: one more job, and one call after another.
-use Rattle.std.proofs.Common.{◌≡◌, ℕ, zero, suc, ◌<◌, List, [], ◌∷◌, ◌++◌, length, get_or, refl, sym, arith, Option, Some, None, map}
+use Rattle.std.proofs.Common.{◌≡◌, ℕ, List, [], ◌∷◌, ◌++◌, length, refl, sym, arith, Option, Some, None, map}
 use Rattle.cs_history.proofs.Common.{IsTree, IsModelled, AllByRecursion, AllZip, Snapshot, Parts, History, nothing, existing, IsStartIndex, after, history_after, IndexJob, Reply}
 use Rattle.cs_history.specs.Premises.{modelled_snapshot, Premises}
 use Rattle.cs_history.specs.Headline.{Indexes}
@@ -30,13 +30,6 @@ zip_push R [] [] x y all h = (h, tt)
 zip_push R [] (b ∷ ys) x y all h = absurd all
 zip_push R (a ∷ xs) [] x y all h = absurd all
 zip_push R (a ∷ xs) (b ∷ ys) x y all h = (all.0, zip_push R xs ys x y all.1 h)
-
--- each tree is modelled
-pub modelled_at : {T : Type 0} (snapshot : T → Option Snapshot) (trees : List T) (i : ℕ) (d : T) →
-    AllByRecursion IsModelled (map snapshot trees) → i < length trees → IsModelled (snapshot (get_or trees i d))
-modelled_at snapshot [] i d all within = absurd (omega (arith, within))
-modelled_at snapshot (t ∷ trees) zero d all within = all.0
-modelled_at snapshot (t ∷ trees) (suc i) d all within = modelled_at snapshot trees i d all.1 (omega (arith, within))
 
 -- ---- one call after another
 

@@ -1,8 +1,7 @@
 -- What a state knows, however far its file is read.
-use Rattle.std.proofs.Common.{◌≡◌, ℕ, Bool, false, List, Option, None, Some, subst, sym}
+use Rattle.std.proofs.Common.{◌≡◌, ℕ, false, List, Option, None, Some, subst, sym}
 use Rattle.std.specs.Prelude.{IfOk, IfSome, Result, Ok, Err, string_bytes}
-use Rattle.cs_tree.specs.declared.tree.Stamp.{Stamp}
-use Rattle.cs_project.specs.Knowledge.{HoldsAsBefore, SearchedTree, SkipsNothingShown}
+use Rattle.cs_project.specs.Knowledge.{SearchedTree}
 use Rattle.cs_project.specs.Searched.{binary_as}
 use Rattle.cs_known.specs.KnownFiles.{AreOptions, Knows}
 use Rattle.cs_known.specs.declared.known_files.KnownFiles.{KnownFiles}
@@ -56,9 +55,3 @@ module _ {S I B : Type 0} (model : S → Option (List ℕ)) (index_model : I →
   still_kept old new same keeps held =
       subst (λ r. IsStillKnown model index_model body_model (string_bytes r) closed prepared new.files tree) (sym same)
       (held.0, known_as_before index_model body_model (string_bytes old.root) old.files new.files keeps tree held.1)
-
--- what is skipped by what holds later may be skipped
-pub skips_as_before : {E : Type 0} (Old Mid : SearchedTree → Type 0) (path : List ℕ) (stamp : Option Stamp) (result : Result Bool E) →
-    HoldsAsBefore Old Mid → IfOk result (SkipsNothingShown Mid path stamp) → IfOk result (SkipsNothingShown Old path stamp)
-skips_as_before Old Mid path stamp (Err fault) as_before skips = tt
-skips_as_before Old Mid path stamp (Ok answer) as_before skips = λ tree old. skips tree (as_before tree old)

@@ -97,10 +97,6 @@ total_cut page finding ended text given later whole result mode (inr (inr e)) h 
 
 -- ---- the lines that are searched, and all
 
-end_of : Ending → Ended
-end_of ends = Whole
-end_of fails = Failed
-
 module _ (left : ℕ) (now : SourceModel) (first : List ℕ) where
   abbrev text_read : List ℕ
   text_read = first ++ take left now.bytes

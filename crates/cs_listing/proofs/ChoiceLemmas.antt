@@ -1,6 +1,6 @@
 -- What the user chooses: globs below the current folder.
 use denote.Ref.{Bor}
-use Rattle.std.specs.Prelude.{Option, Some, None, is_some, unwrap_or, String, string_bytes, bytes_eq}
+use Rattle.std.specs.Prelude.{Some, None, is_some, unwrap_or, String, string_bytes, bytes_eq}
 use Rattle.std.specs.declared.alloc.Global.{Global}
 use Rattle.std.proofs.Common.{◌≡◌, refl, ℕ, ◌+◌, ◌<◌, ◌≤◌, Bool, true, false, not, cond, List, [], ◌∷◌, map, length, take, drop, get_or, ◌-◌, sym, ap, ◌∙◌, arith}
 use Rattle.std.proofs.lemmas.List.{drop_more, drop_all, length-map, length-drop, take_rest, drop-map}
@@ -55,9 +55,6 @@ path_ends folder path i low past =
     ap (λ ns. is_some (after (names_from folder i) ns)) (drop_all i (names path) (omega (arith, past, length-map path (λ (own : Bor (List ℕ)). own.now))))
     ∙ some_more (names_from folder i) (omega (arith, low, length-map (drop i folder) string_bytes, length-drop i folder))
 
-pub folder_ends : (folder : List (String Global)) (path : List (List ℕ)) (i : ℕ) → length folder ≤ i → follows folder path i ≡ true
-folder_ends folder path i past = ap (λ fs. is_some (after (map string_bytes fs) (drop i path))) (drop_all i folder past)
-
 -- what follows is what is left
 after_drops : (prefix path : List (List ℕ)) → is_some (after prefix path) ≡ true →
     (after prefix path ≡ Some (drop (length prefix) path)) × (length prefix ≤ length path)
@@ -89,10 +86,3 @@ below_is folder path is =
     ∙ sym (drop-map (λ (name : Bor (List ℕ)). name.now) (length folder) path)
     ∙ sym (ap (λ n. drop n (names path)) (length-map folder string_bytes))
     ∙ sym (ap (λ o. unwrap_or o (names path)) (after_drops (map string_bytes folder) (names path) is).0)
-
-pub elsewhere_is : (folder path : List (List ℕ)) → is_some (after folder path) ≡ false → relative_to folder path ≡ path
-elsewhere_is folder path is = by_case (after folder path) is
-  where
-    by_case : (o : Option (List (List ℕ))) → is_some o ≡ false → unwrap_or o path ≡ path
-    by_case None is = refl
-    by_case (Some p) is = cc

@@ -113,9 +113,6 @@ pub class_goes_on : (text : List ℕ) (ranges : List (ℕ × ℕ)) (n : ℕ) →
     begins_with 93 (drop n text) ≡ false → class_items text ≡ after_items ranges n (class_items (drop n text))
 class_goes_on text ranges n e is = item_first text ranges n e ∙ ap (after_items ranges n) (goes_on (drop n text) is)
 
-pub class_fails : (text : List ℕ) → class_item text ≡ None → class_items text ≡ None
-class_fails text e = ap (λ item. with_item item (later_items (item_length item) text)) e
-
 -- ---- names of classes
 
 two : (xs name : List ℕ) → length name ≡ 2 → bytes_eq (take 2 xs) name ≡ true → 2 ≤ length xs
@@ -224,10 +221,6 @@ none_closed text rest inner at e is = λ k from less.
     let later = none_later k rest (omega (arith, less, ap length e)) none in
     none_either (bytes_eq (take 2 (drop k text)) (codes "[:")) (closed_name (drop 2 (drop k text)))
     (ap closed_name (drop-drop 2 k text ∙ ap (λ n. drop n text) (omega arith) ∙ sym (drop-drop k 2 text) ∙ ap (drop k) (sym at)) ∙ later)
-
-pub none_begins : (text : List ℕ) → bytes_eq (take 2 text) (codes "[:") ≡ false → HasNoName text 0 1
-none_begins text is = λ k from less. let zero : 0 ≡ k = omega (arith, less) in
-    subst (λ k. class_name (drop k text) ≡ None) zero (ap (λ t. cond t (closed_name (drop 2 text)) None) is)
 
 -- the bytes before a `]` that do not end in `:`
 pub closes_by_last : (inner rest name : List ℕ) (last : ℕ) → inner ≡ name ++ last ∷ [] → nat_eq last 58 ≡ false → closes inner rest ≡ false

@@ -1,5 +1,5 @@
 -- Reading a folder: its rule files, and one entry after the other.
-use Rattle.std.specs.Prelude.{Option, Some, None, option_map, is_some, String, string_bytes, codes}
+use Rattle.std.specs.Prelude.{Option, Some, None, option_map, String, string_bytes, codes}
 use Rattle.std.specs.Path.{slash}
 use Rattle.std.specs.List.{cons_option}
 use Rattle.std.specs.Option.{option_to_list}
@@ -65,12 +65,6 @@ exclude_is None own folders text room bytes is at read = tt
 exclude_is (Some tree) own folders text room bytes is at read =
     ap (λ bs. Some bs) (read ∙ ap (λ t. bytes_within room (bytes_of_item (item_at tree (entry_path t (codes "info/exclude"))))) at)
     ∙ sym (ap (λ o. option_map (bytes_within room) (option_map (exclude_bytes (item_at tree)) (option_map repository_folders o))) is)
-
--- whether a repository begins in a folder does not depend on how its folders are kept
-pub same_root : (own : Option GitFolders) (folders : Option (List ℕ × List ℕ)) → option_map repository_folders own ≡ folders →
-    is_some own ≡ is_some folders
-same_root None folders same = ap is_some same
-same_root (Some own) folders same = ap is_some same
 
 -- the files for rules that are there
 pub all_there : (s first second : Option Snapshot) (stem : List ℕ) (none one two three : List (List ℕ)) → first ≡ s → second ≡ first →

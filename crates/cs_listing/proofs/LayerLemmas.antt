@@ -113,11 +113,6 @@ begins_with_rules exclude folders path = record { exclude = exclude; folders = f
 abbrev pub HasNone : List FolderRules → Type 0
 HasNone folders = (path : List (List ℕ)) → repository_of folders path ≡ None
 
-pub has_none_more : (folder : FolderRules) (folders : List FolderRules) → folder.exclude ≡ None → HasNone folders → HasNone (folder ∷ folders)
-has_none_more folder folders none has path =
-    ap (λ o. or_else o (begins_here folder.exclude (folder ∷ folders) path)) (has (drop 1 path))
-    ∙ ap (λ e. begins_here e (folder ∷ folders) path) none
-
 begins : (above lower : List FolderRules) (folder : FolderRules) (exclude : List Rule) (path : List (List ℕ)) →
     folder.exclude ≡ Some exclude → HasNone lower →
     repository_of (above ++ folder ∷ lower) path

@@ -5,7 +5,7 @@ use Rattle.std.proofs.Common.{◌≡◌, ◌≢◌, refl, ℕ, ◌+◌, ◌/◌,
 use Rattle.std.specs.Prelude.{Option, Some, None}
 use Rattle.std.proofs.lemmas.Nat.{or_comm, or_shr}
 use Rattle.std.proofs.lemmas.Bool.{eqb-true, and_parts, false≢true, false_from_ne_true}
-use Rattle.std.proofs.lemmas.List.{length-append, take_all, take_more, get_or-map}
+use Rattle.std.proofs.lemmas.List.{length-append, take_more, get_or-map}
 use Rattle.std.specs.List.{IsLastAndRest}
 use Rattle.cs_listing.specs.Globs.{matches_name, matches_path}
 use Rattle.cs_listing.specs.Models.{tokens_of, glob_of, rule_of}
@@ -205,17 +205,6 @@ pub record HasAsked (rules : List Rule) (path : List (List ℕ)) (is_folder : Bo
   pub rises : start ≤ now
   pub work : now + rules_work (map rule_of (take at rules)) path ≤ start + rules_work (map rule_of rules) path
 
-pub asked_none : (rules : List Rule) (path : List (List ℕ)) (is_folder : Bool) (at start : ℕ) → at ≡ length rules →
-    HasAsked rules path is_folder at start start
-asked_none rules path is_folder at start e =
-    let all : take at rules ≡ rules = take_all at rules (omega (arith, e)) in
-    record {
-      within = omega (arith, e);
-      decided = sym (ap (λ rs. decide (map rule_of rs) path is_folder) all);
-      rises = omega arith;
-      work = omega (arith, ap (λ rs. rules_work (map rule_of rs) path) all);
-    }
-
 module _ (rules : List Rule) (path : List (List ℕ)) (is_folder : Bool) (before at start now : ℕ) (rule : Rule)
     (has : HasAsked rules path is_folder before start now) (e : before ≡ at + 1) (is : rule ≡ get_or rules at rule) where
   less : at < length rules
@@ -259,11 +248,3 @@ module _ (rules : List Rule) (path : List (List ℕ)) (is_folder : Bool) (before
     omega (arith, has.rises, counts.0),
     omega (arith, has.work, work_is, counts.1),
   )
-
-pub asked_all : (rules : List Rule) (path : List (List ℕ)) (is_folder : Bool) (at start now : ℕ) → HasAsked rules path is_folder at start now → at ≡ 0 →
-    (None ≡ decide (map rule_of rules) path is_folder) × (start ≤ now) × (now ≤ start + rules_work (map rule_of rules) path)
-asked_all rules path is_folder at start now has e = (
-  sym (has.decided ∙ ap (λ n. decide (map rule_of (take n rules)) path is_folder) e),
-  has.rises,
-  omega (arith, has.work),
-)

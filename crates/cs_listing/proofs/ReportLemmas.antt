@@ -1,5 +1,5 @@
 -- A path that could not be read is given once.
-use Rattle.std.specs.Prelude.{Option, Some, None, String, string_bytes, string_cmp, bytes_eq}
+use Rattle.std.specs.Prelude.{String, string_bytes, string_cmp, bytes_eq}
 use Rattle.std.specs.List.{list_any, AllByRecursion}
 use Rattle.std.specs.BTreeSet.{BTreeSet, contains, contains_text, Updates}
 use Rattle.std.specs.BTreeMap.{is_at}
@@ -11,18 +11,13 @@ use Rattle.std.proofs.lemmas.Bool.{true≢false, false_from_ne_true}
 use Rattle.std.proofs.lemmas.Map.Text.{btree_set_updates_text}
 use Rattle.cs_tree.specs.Elements.{is_among, are_distinct}
 use Rattle.cs_listing.specs.Listing.{TreeItems}
-use Rattle.cs_listing.specs.Walk.{Reports, KeepsReports, ReportsOnce, TakesOne}
+use Rattle.cs_listing.specs.Walk.{Reports, KeepsReports, TakesOne}
 use Rattle.cs_listing.specs.WholeWalks.{GivesToEnd, paths_reported, WalksReportOnce}
 use Rattle.cs_listing.specs.declared.fault.Unread.{Unread}
 use Rattle.cs_listing.specs.declared.walk.Found.{Found}
 use Rattle.cs_listing.specs.declared.walk.Found.TheVariants as found
 use Rattle.cs_listing.specs.declared.walk.Walk.{Walk}
 use Rattle.cs_listing.proofs.KeyLemmas.{same_eq}
-
--- a set with the same paths
-pub same_paths : (old new : BTreeSet (String Global)) → new.keys ≡ old.keys → KeepsReports old new
-same_paths old new same path =
-    ap (λ (keys : List (String Global)). list_any (is_at (λ (key : String Global). slice_cmp nat_cmp path (string_bytes key))) keys) same
 
 -- a set without paths
 pub none_in : (old new : BTreeSet (String Global)) → new ≡ old → old.keys ≡ [] → (path : List ℕ) → contains_text new path ≡ false
@@ -37,10 +32,6 @@ either_or false x = refl
 not_true : (b : Bool) → true ≡ not b → b ≡ false
 not_true true e = e
 not_true false e = refl
-
-not_false : (b : Bool) → false ≡ not b → b ≡ true
-not_false true e = refl
-not_false false e = e
 
 -- a path is added that was not in the set
 pub newly : (first now later : BTreeSet (String Global)) (path : String Global) (text : List ℕ) → KeepsReports first now →
@@ -59,33 +50,12 @@ abbrev pub AreBehind : BTreeSet (String Global) → List Unread → List Unread 
 AreBehind reported all left = (others : List Unread) × (all ≡ left ++ others)
     × AllByRecursion (λ other. contains_text reported (string_bytes other.path) ≡ true) others
 
-pub one_behind : (first now : BTreeSet (String Global)) (path : String Global) (all old new : List Unread) (next : Unread) →
-    KeepsReports first now → false ≡ not (contains string_cmp now path) → string_bytes path ≡ string_bytes next.path →
-    old ≡ new ++ next ∷ [] → AreBehind first all old → AreBehind first all new
-one_behind first now path all old new next kept added is popped behind = (
-  next ∷ behind.0,
-  behind.1 ∙ ap (λ us. us ++ behind.0) popped ∙ append_assoc new (next ∷ []) behind.0,
-  (
-    sym (kept (string_bytes next.path)) ∙ sym (ap (contains_text now) is) ∙ not_false (contains string_cmp now path) added,
-    behind.2,
-  ),
-)
-
 pub takes_one : (reported : BTreeSet (String Global)) (all old new : List Unread) (next : Unread) → old ≡ new ++ next ∷ [] →
     AreBehind reported all old → TakesOne reported all new next
 takes_one reported all old new next popped behind =
     (behind.0, behind.1 ∙ ap (λ us. us ++ behind.0) popped ∙ append_assoc new (next ∷ []) behind.0, behind.2)
 
 -- ---- calls of `next`, one after the other
-
-pub once_from : (first old new : Walk) (given : Option Found) → KeepsReports first.reported old.reported → ReportsOnce old new given →
-    ReportsOnce first new given
-once_from first old new None kept once = λ path. once path ∙ kept path
-once_from first old new (Some (found.File file)) kept once = λ path. once path ∙ kept path
-once_from first old new (Some (found.Unread unread)) kept once = (
-  sym (kept (string_bytes unread.path)) ∙ once.0,
-  λ other. once.1 other ∙ ap (λ b. bytes_eq (string_bytes unread.path) other || b) (kept other),
-)
 
 -- ---- whole walks
 

@@ -2,11 +2,11 @@
 use Rattle.std.specs.Prelude.{Option, Some, None, IfSome, Result, OnOk, string_bytes}
 use Rattle.std.specs.List.{All, Contains}
 use Rattle.std.specs.Option.{option_to_list}
-use Rattle.std.proofs.Common.{◌≡◌, ℕ, Bool, true, false, List, [], ◌∷◌, ◌++◌, sym, ap, subst, ◌∙◌}
+use Rattle.std.proofs.Common.{◌≡◌, ℕ, List, [], ◌∷◌, ◌++◌, sym, ap, subst, ◌∙◌}
 use Rattle.std.proofs.lemmas.List.{append-nil}
 use Rattle.std.proofs.lemmas.List.Elements.{All-nil, All-push, All-pop, All-weaker, All-contains}
 use Rattle.cs_tree.specs.Snapshot.{Snapshot}
-use Rattle.cs_listing.specs.FolderReads.{entry_path, key_of}
+use Rattle.cs_listing.specs.FolderReads.{entry_path}
 use Rattle.cs_listing.specs.Entries.{entry_key}
 use Rattle.cs_listing.specs.Stamps.{Stamps, InStamps, IsFileKey, IsStamped, IsFrameStamped, AreStamped, KeepsStamped, GivesStamped}
 use Rattle.cs_listing.specs.declared.entries.Entry.{Entry}
@@ -37,15 +37,6 @@ with_both s now of P Q R same each p q = by_model s p (subst (λ o. InStamps o o
     by_model (Some tree) p q = each (of tree) p q
 
 -- ---- the entries of a folder
-
-pub entry_stamped : (s : Option Snapshot) (of : Snapshot → Stamps) (stem name : List ℕ) (entry : Entry) (is_folder : Bool) →
-    entry_key entry ≡ key_of is_folder name → InStamps s of (λ stamps. entry.stamp ≡ stamps (entry_path stem name)) →
-    InStamps s of (λ stamps. IsStamped stamps stem entry)
-entry_stamped s of stem name entry true key is =
-    in_stamps s of (λ stamps. IsStamped stamps stem entry) (λ stamps file. absurd (file name key))
-entry_stamped s of stem name entry false key is =
-    with_stamps s of (λ stamps. entry.stamp ≡ stamps (entry_path stem name)) (λ stamps. IsStamped stamps stem entry)
-    (λ stamps is file. is ∙ ap (λ k. stamps (entry_path stem k)) (sym key)) is
 
 pub more_stamped : (s now : Option Snapshot) (of : Snapshot → Stamps) (stem : List ℕ) (before later : List Entry) (entry : Option Entry) →
     now ≡ s → later ≡ before ++ option_to_list entry → InStamps s of (λ stamps. All (IsStamped stamps stem) before) →

@@ -53,10 +53,6 @@ notes_then s t a b c p q same first second =
     (λ items one two. two ∙ ap (λ ps. ps ++ q items) one ∙ append_assoc (paths_noted a) (p items) (q items))
     first (moved_to s t (λ items. paths_noted c ≡ paths_noted b ++ q items) same second)
 
-pub notes_none : (s : Option Snapshot) (a b : FolderReader) → paths_noted b ≡ paths_noted a → Notes s a b (λ items. [])
-notes_none None a b same = tt
-notes_none (Some tree) a b same = same ∙ sym (append-nil (paths_noted a))
-
 pub notes_after : (s : Option Snapshot) (a b c : FolderReader) (more : List (List ℕ)) (q : TreeItems → List (List ℕ)) →
     paths_noted b ≡ paths_noted a ++ more → Notes s b c q → Notes s a c (λ items. more ++ q items)
 notes_after s a b c more q one =

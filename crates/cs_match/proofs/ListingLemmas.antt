@@ -1,6 +1,6 @@
 -- Lists of matching lines: lines without a match, a line with one, and a list behind a list.
 use Rattle.std.proofs.Common.{◌≡◌, ℕ, zero, suc, ◌+◌, ◌-◌, ◌<◌, ◌≤◌, inl, inr, Bool, true, false, cond, ◌&&◌, nat_eq, List, [], ◌∷◌, ◌++◌, length, take, drop, get_or, refl, sym, ap, ap₂, subst, ◌∙◌, arith, drop-cons, length-take, length-drop, zero-add, append-nil}
-use Rattle.std.specs.Prelude.{slice_set, slice_index, count_by}
+use Rattle.std.specs.Prelude.{slice_index, count_by}
 use Rattle.std.specs.List.{filter, range_with_len, AllByRecursion}
 use Rattle.std.proofs.lemmas.Bool.{cases_lt, eqb-true}
 use Rattle.std.proofs.lemmas.List.Sums.{count_by-le-length}
@@ -297,17 +297,6 @@ line_at block from size end low high here within whole part =
     (subst (λ n. HasNoNewline (take n (drop (from + (end - from)) block))) none tt) (newline_here block end high here)
 
 -- a first element is written
-pub first_set : (xs : List ℕ) (x : ℕ) → 0 < length xs → take 1 (slice_set xs 0 x) ≡ x ∷ []
-first_set [] x some = let no : ⊥ = omega (arith, some) in absurd no
-first_set (y ∷ xs) x some = refl
-
-pub first_of_set : (xs : List ℕ) (x : ℕ) → 0 < length xs → slice_index (slice_set xs 0 x) 0 ≡ x
-first_of_set [] x some = let no : ⊥ = omega (arith, some) in absurd no
-first_of_set (y ∷ xs) x some = refl
-
-pub length_of_set : (xs : List ℕ) (x : ℕ) → 0 < length xs → length (slice_set xs 0 x) ≡ length xs
-length_of_set [] x some = let no : ⊥ = omega (arith, some) in absurd no
-length_of_set (y ∷ xs) x some = refl
 
 pub first_taken : (xs : List ℕ) → 0 < length xs → take 1 xs ≡ slice_index xs 0 ∷ []
 first_taken [] some = let no : ⊥ = omega (arith, some) in absurd no

@@ -8,7 +8,7 @@ use Rattle.cs_syntax.specs.Matching.{Tree, Trees, empty, one_of, one_char, cat, 
 use Rattle.cs_match.specs.declared.position.Position.{Position}
 use Rattle.cs_match.specs.Glushkov.{position_count, position_count_of}
 use Rattle.cs_match.specs.Entered.{position_list, position_list_of}
-use Rattle.cs_match.specs.OneWord.{is_one_word, are_one_word, has_byte, OccursAt, AreSpansOfWord}
+use Rattle.cs_match.specs.OneWord.{is_one_word, are_one_word, has_byte, OccursAt}
 use Rattle.cs_match.specs.Span.{IsWholeWord, IsMatchOf, IsFirstOf, HasNoMatchOf}
 use Rattle.cs_match.specs.SpanSearch.{BeginFrom}
 use Rattle.cs_match.proofs.EnteredLemmas.{length-position_list}
@@ -101,12 +101,6 @@ module _ (s : List ℕ) where
         let rest = occur_spans ts both.1 (i + position_count t) (subst (OccursAt s (position_list_of ts)) at parts.1) in
         let end : (i + position_count t) + position_count_of ts ≡ i + (position_count t + position_count_of ts) = omega arith in
         (i + position_count t, occurs_span t both.0 i parts.0, subst (MatchesSequence s ts (i + position_count t)) end rest)
-
-pub spans_of_word : (t : Tree) → is_one_word t ≡ true → AreSpansOfWord t
-spans_of_word t e s i j = (
-  span_occurs s t e i j,
-  λ h. subst (MatchesSpan s t i) (sym h.1) (occurs_span s t e i h.0),
-)
 
 -- the matches of a tree that is one word
 module _ (whole : Bool) (t : Tree) (s : List ℕ) (from least : ℕ) (one : is_one_word t ≡ true) where

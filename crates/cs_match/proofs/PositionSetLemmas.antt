@@ -1,11 +1,9 @@
 -- Position sets as bits of words.
-use Rattle.std.proofs.Common.{◌≡◌, ℕ, ◌+◌, ◌*◌, ◌/◌, ◌%◌, ◌^◌, ◌<◌, Bool, false, eqb, List, ◌∷◌, ◌++◌, length, replicate, get_or, set, take, drop, sym, ◌∙◌, ap, subst, inl, inr, arith, ext_get_or, length-set, get_or-set_same, get_or-set_other, lit<, eq-eqb, add-one}
+use Rattle.std.proofs.Common.{◌≡◌, ℕ, ◌+◌, ◌/◌, ◌%◌, ◌^◌, ◌<◌, Bool, false, List, ◌∷◌, ◌++◌, length, replicate, get_or, set, take, drop, sym, ◌∙◌, ap, inl, inr, arith, ext_get_or, length-set, get_or-set_same, get_or-set_other, lit<, add-one}
 use Rattle.std.proofs.lemmas.List.{length-replicate, get_or-replicate, set_split}
 use Rattle.std.proofs.lemmas.List.FromFn.{length-map-range_with_len, get_or-map-range_with_len}
 use Rattle.std.proofs.lemmas.List.Elements.{All-replicate, All-set}
-use Rattle.std.proofs.lemmas.Bool.{cases_eq, cases_lt, eqb-true}
-use Rattle.std.proofs.lemmas.Nat.Bits.{bit_at-lt, same_from_bits_below}
-use Rattle.std.specs.Int.{bit_at}
+use Rattle.std.proofs.lemmas.Bool.{cases_eq}
 use Rattle.cs_syntax.specs.Bits.{has_bit}
 use Rattle.cs_syntax.proofs.BitLemmas.{IsWithBit, has_bit-zeros, has_bit-set_same, has_bit-set_other}
 use Rattle.cs_match.specs.PositionSet.{positions_of, IsPositionSet}
@@ -86,34 +84,3 @@ same_count a b m n xs ys of-a of-b same =
 pub same_length : (a b : List ℕ) (m n : ℕ) (xs ys : List Bool) → IsPositionSet a m → IsPositionSet b n →
     positions_of a m ≡ xs → positions_of b n ≡ ys → length xs ≡ length ys → length a ≡ length b
 same_length a b m n xs ys are-a are-b of-a of-b same = omega (arith, same_count a b m n xs ys of-a of-b same, are-a.enough, are-b.enough)
-
--- two bits are equal if the tests for 1 are
-same_bit : (a b : ℕ) → a < 2 → b < 2 → eqb a 1 ≡ eqb b 1 → a ≡ b
-same_bit a b low-a low-b e =
-    elim (cases_eq a 1) [
-      | inl one ↦ one ∙ sym (eqb-true b 1 (sym e ∙ eq-eqb a 1 one))
-      | inr other ↦ elim (cases_eq b 1) [
-        | inl one ↦ absurd (other (eqb-true a 1 (e ∙ eq-eqb b 1 one)))
-        | inr neither ↦ omega arith
-      ]
-    ]
-
--- equal sets have equal words
-pub same_words : (a b : List ℕ) (count : ℕ) → IsPositionSet a count → IsPositionSet b count → positions_of a count
-    ≡ positions_of b count → a ≡ b
-same_words a b count of-a of-b same = ext_get_or 0 a b (of-a.enough ∙ sym of-b.enough) (λ k h.
-    let h-b : k < length b = omega (arith, of-a.enough, of-b.enough) in
-    same_from_bits_below 64 (get_or a k 0) (get_or b k 0) (of-a.fit k 0 h) (of-b.fit k 0 h-b) (λ i low.
-    let quotient : (k * 64 + i) / 64 ≡ k = omega arith in
-    let rest : (k * 64 + i) % 64 ≡ i = omega arith in
-    same_bit _ _ (bit_at-lt (get_or a k 0) i) (bit_at-lt (get_or b k 0) i)
-    (subst (λ (n : ℕ). eqb (bit_at (get_or a k 0) n) 1 ≡ eqb (bit_at (get_or b k 0) n) 1) rest
-    (subst (λ (n : ℕ). eqb (bit_at (get_or a n 0) ((k * 64 + i) % 64)) 1
-    ≡ eqb (bit_at (get_or b n 0) ((k * 64 + i) % 64)) 1) quotient (each (k * 64 + i))))))
-  where
-    each : (at : ℕ) → has_bit a at ≡ has_bit b at
-    each at = elim (cases_lt at count) [
-      | inl within ↦ sym (get_or-positions_of a count at within) ∙ ap (λ ms. get_or ms at false) same
-          ∙ get_or-positions_of b count at within
-      | inr past ↦ of-a.no_other at past ∙ sym (of-b.no_other at past)
-    ]

@@ -1,13 +1,12 @@
 -- The work of passes.
 use Rattle.std.proofs.Common.{◌≡◌, ℕ, zero, suc, ◌+◌, ◌-◌, ◌*◌, ◌^◌, ◌<◌, ◌≤◌, ap, arith}
 use Rattle.cs_syntax.specs.Matching.{Tree}
-use Rattle.cs_match.specs.Work.{words}
 use Rattle.cs_match.specs.Passes.{HasRead}
 use Rattle.cs_match.specs.SpanList.{finding_of}
 use Rattle.cs_match.specs.SpanWork.{ReadsAtMost, pass_work, pass_bytes, find_bytes}
 use Rattle.cs_match.specs.declared.spans.pass.Pass.{Pass}
 use Rattle.std.proofs.Math.Nat.{pow-suc}
-use Rattle.cs_match.proofs.PositionCountLemmas.{mul_both, scaled}
+use Rattle.cs_match.proofs.PositionCountLemmas.{scaled}
 
 spread : (a b w : ℕ) → (a + b) * w ≡ a * w + b * w
 spread a b w = omega arith
@@ -128,10 +127,6 @@ module _ (t : Tree) where
     low = omega (arith, h.low);
     high = omega (arith, h.high, scaled h.bytes most (pass_work t) h.few);
   }
-
--- where a pass begins
-pub begin_cost : (read words work : ℕ) → words + 3 ≤ work → read + read + (words + 1) ≤ (read + 1) * work
-begin_cost read words work some = omega (arith, spread read 1 work, mul_both read 2 read work (omega arith) (omega (arith, some)))
 
 -- an exponent for each length
 pub some_power : (n : ℕ) → n < 2 ^ n

@@ -71,9 +71,6 @@ rise_taken count next zero ids up = tt
 rise_taken count next (suc some) [] up = tt
 rise_taken count next (suc some) (id ∷ ids) up = (up.0, up.1, rise_taken count (id + 1) some ids up.2)
 
-pub none_written : (limit : Option ℕ) (now : Written) (ids : List ℕ) → IsWrittenBelow limit now now ids ids
-none_written limit now ids = record { given = []; ids_are = refl; now_is = refl; below = tt }
-
 pub written_more : (limit : Option ℕ) (before middle now : Written) (ids left rest : List ℕ) →
     IsWrittenBelow limit before middle ids left → IsWrittenBelow limit middle now left rest →
     IsWrittenBelow limit before now ids rest

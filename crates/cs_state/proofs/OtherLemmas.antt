@@ -19,10 +19,6 @@ pub any_none : {X : Type 0} {P : Type 0} (o : Option X) → P → IfNone o P
 any_none None p = p
 any_none (Some x) p = tt
 
-pub if_none : {X : Type 0} {P : Type 0} (o : Option X) → ((x : X) → o ≡ Some x → ⊥) → IfNone o P → P
-if_none None not p = p
-if_none (Some x) not p = absurd (not x refl)
-
 -- ---- names
 
 -- a NUL ends one name alone

@@ -26,12 +26,6 @@ part_in bytes piece start at len from within is =
     ap (λ p. part_of p (at - start) len) is ∙ part_of_first (length piece) (at - start) len (drop start bytes) (omega (arith, within))
     ∙ ap (take len) (drop-drop (at - start) start bytes) ∙ ap (λ n. part_of bytes n len) whole
 
-pub part_read : (bytes piece : List ℕ) (at len most : ℕ) → len ≤ most → piece ≡ part_of bytes at most →
-    part_of piece (at - at) len ≡ part_of bytes at len
-part_read bytes piece at len most fits is =
-    let none : at - at ≡ 0 = omega arith in
-    ap (λ n. part_of piece n len) none ∙ ap (take len) is ∙ take-take len most (drop at bytes) fits
-
 -- a stamp of five numbers
 pub stamp_of : (bytes : List ℕ) (stamp : Stamp) → eight_bytes stamp.device ≡ take 8 bytes → eight_bytes stamp.inode ≡ take 8 (drop 8 bytes) →
     eight_bytes stamp.size ≡ take 8 (drop 16 bytes) → eight_bytes stamp.modified ≡ take 8 (drop 24 bytes) →

@@ -35,16 +35,3 @@ tree_of-WordEdge = ap tree_of (sym rolls-WordEdge) ∙ fold-roll-Node Tree tree_
 
 pub tree_of-NotWordEdge : tree_of NotWordEdge ≡ not_word_edge
 tree_of-NotWordEdge = ap tree_of (sym rolls-NotWordEdge) ∙ fold-roll-Node Tree tree_step Node-F.NotWordEdge
-
-pub ruleset tree_rules = (
-  tree_of-Empty,
-  tree_of-Set,
-  tree_of-Chars,
-  tree_of-Cat,
-  tree_of-Alt,
-  tree_of-Rep,
-  tree_of-LineStart,
-  tree_of-LineEnd,
-  tree_of-WordEdge,
-  tree_of-NotWordEdge,
-)

@@ -71,9 +71,6 @@ contains_retained paths test q = ap is_some (map'.get-retain_keys paths test q (
     kept_some false None = refl
     kept_some false (Some u) = refl
 
-pub contains-empty : (q : List ℕ) → set.contains map'.empty q ≡ false
-contains-empty q = ap is_some (map'.get-empty bytes_cmp q)
-
 pub find-append : {X : Type 0} (q : List ℕ) (es fs : List (List ℕ × X)) → find bytes_cmp q (es ++ fs)
     ≡ option_or (find bytes_cmp q es) (find bytes_cmp q fs)
 find-append q [] fs = refl
@@ -92,10 +89,6 @@ contains-union a b q =
     either : (x y : Option (Unit {0})) → is_some (option_or x y) ≡ (is_some x || is_some y)
     either None y = refl
     either (Some u) y = refl
-
-pub contains_first : (p : List ℕ) (ps : List (List ℕ)) → set.contains (set.from_list (p ∷ ps)) p ≡ true
-contains_first p ps = ap is_some (map'.get-from_entries nat_list_cmp_total (set.unit_entries (p ∷ ps)) p)
-    ∙ ap (λ b. is_some (cond b (Some tt) (find bytes_cmp p (set.unit_entries ps)))) (tied_same p)
 
 pub same_set : (a b : Paths) → ((q : List ℕ) → set.contains a q ≡ set.contains b q) → a ≡ b
 same_set a b h = map'.same_map nat_list_cmp_total alike a b (λ q. one_mark (map'.get a q) (map'.get b q) (h q))

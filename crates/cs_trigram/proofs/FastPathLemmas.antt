@@ -1,5 +1,5 @@
 -- The fast path accepts only bytes that break no rule.
-use Rattle.std.proofs.Common.{◌≡◌, ◌≤◌, ◌<◌, ℕ, zero, suc, ◌+◌, ◌-◌, true, false, not, cond, ◌&&◌, ◌||◌, ltb, leb, eqb, List, [], ◌∷◌, ◌++◌, length, take, drop, get_or, Some, None, refl, sym, ap, subst, ◌∙◌, inl, inr, arith, length-append, length-take, append_assoc, take-append-drop}
+use Rattle.std.proofs.Common.{◌≡◌, ◌≤◌, ◌<◌, ℕ, suc, ◌+◌, ◌-◌, true, false, not, cond, ◌&&◌, ◌||◌, ltb, leb, eqb, List, [], ◌∷◌, ◌++◌, length, take, drop, get_or, Some, None, refl, sym, ap, subst, ◌∙◌, inl, inr, arith, length-append, length-take, append_assoc, take-append-drop}
 use Rattle.std.proofs.lemmas.Bool.{cases_lt, eq-eqb, ne_eqb, lt-ltb, le-ltb, lt-leb, le-leb, or_left}
 use Rattle.std.proofs.lemmas.List.{append-nil, take_more}
 use Rattle.std.specs.List.{AllByRecursion}
@@ -79,10 +79,6 @@ pub ascii_pairs_valid : (before : ℕ) (bytes : List ℕ) → before < 192 → A
 ascii_pairs_valid before [] early plain = tt
 ascii_pairs_valid before (b ∷ rest) early plain =
     (plain.0.0, ascii_pair_valid before b early plain.0.0 plain.0.1, ascii_pairs_valid b rest (omega (arith, plain.0.1)) plain.1)
-
-above_zero : (n : ℕ) → (n ≡ 0 → ⊥) → 0 < n
-above_zero zero some = absurd (some refl)
-above_zero (suc n) some = omega arith
 
 valid_pairs_unbroken : (most : Limits) (prefix : List ℕ) (b : ℕ) → 0 < b → valid_utf8_pair (last_byte prefix) b ≡ true →
     length prefix < most.bytes → length (line_so_far prefix) < most.line → rule_broken most prefix b ≡ None

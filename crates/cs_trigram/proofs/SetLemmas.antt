@@ -203,15 +203,6 @@ members_all P (n ∷ ns) h = (h n (or_left (eqb n n) _ (eq-eqb n n refl)), membe
 pub all_from_set : (P : ℕ → Type 0) (ns : List ℕ) → AllByRecursion P (set_of_numbers ns) → AllByRecursion P ns
 all_from_set P ns all = members_all P ns (λ n h. of_each P (set_of_numbers ns) n all (has-set_of_numbers n ns ∙ h))
 
--- all numbers after the first of an ascending list are greater
-pub all_above : (n : ℕ) (ms : List ℕ) → Ascends (n ∷ ms) → AllByRecursion (λ m. n < m) ms
-all_above n [] up = tt
-all_above n (m ∷ ms) up = (up.0, all_above n ms (skip ms up.0 up.1))
-  where
-    skip : (ks : List ℕ) → n < m → Ascends (m ∷ ks) → Ascends (n ∷ ks)
-    skip [] h up = tt
-    skip (k ∷ ks) h up = (let g = up.0 in omega (arith, h, g), up.1)
-
 -- ---- filters
 
 above_filter : (p : ℕ → Bool) (n : ℕ) (xs : List ℕ) → Above n xs → Ascends xs → Above n (filter p xs)
@@ -251,11 +242,3 @@ has-filter p (x ∷ xs) k = elim (cases_Bool (eqb x k)) [
       (λ _. ap (λ b. b || has (filter p xs) k) apart ∙ has-filter p xs k) (λ _. has-filter p xs k)
       ∙ sym (ap (λ b. (b || has xs k) && p k) apart)
 ]
-
--- tests that agree on the members give the same filter
-pub filter_within : (p q : ℕ → Bool) (xs : List ℕ) → ((x : ℕ) → has xs x ≡ true → p x ≡ q x) → filter p xs ≡ filter q xs
-filter_within p q [] h = refl
-filter_within p q (x ∷ xs) h =
-    let here : p x ≡ q x = h x (or_left (eqb x x) (has xs x) (eq-eqb x x refl)) in
-    let rest = filter_within p q xs (λ y e. h y (or_right (eqb x y) (has xs y) e)) in
-    λ i. cond (here i) (x ∷ rest i) (rest i)

@@ -1,5 +1,5 @@
 -- The bitmap and the list after one more number.
-use Rattle.std.proofs.Common.{◌≡◌, ◌≢◌, ◌<◌, ℕ, suc, ◌+◌, ◌*◌, ◌/◌, ◌%◌, ◌^◌, Bool, true, false, ◌||◌, eqb, List, [], ◌∷◌, ◌++◌, length, take, get_or, set, refl, sym, ap, subst, ◌∙◌, inl, inr, ◌⊎◌, arith, length-append, drop, get_or-set_same, get_or-set_other, w64, bit_or, bit_and, not}
+use Rattle.std.proofs.Common.{◌≡◌, ◌≢◌, ◌<◌, ℕ, ◌+◌, ◌*◌, ◌/◌, ◌%◌, ◌^◌, Bool, true, false, ◌||◌, eqb, List, [], ◌∷◌, ◌++◌, length, take, get_or, set, refl, sym, ap, subst, ◌∙◌, inl, inr, ◌⊎◌, arith, length-append, drop, get_or-set_same, get_or-set_other, w64, bit_or, bit_and, not}
 use Rattle.std.proofs.Math.Bool.{or-false, or-true}
 use Rattle.std.proofs.lemmas.List.{append_assoc, take-set-le, take_more_set}
 use Rattle.std.proofs.lemmas.Nat.{one_shl}
@@ -8,7 +8,6 @@ use Rattle.std.specs.Int.Bits.{or_add_and}
 use Rattle.std.proofs.lemmas.Bool.{cases_eq, eq-eqb, ne_eqb}
 use Rattle.std.specs.Int.{bit_at, from_bool}
 use Rattle.cs_syntax.specs.Bits.{has_bit}
-use Rattle.std.specs.List.{AllByRecursion}
 use Rattle.cs_trigram.specs.Trigram.{Ascends, with_number, set_of_numbers, has}
 use Rattle.cs_trigram.specs.TrigramBitmap.{IsBitmapOf, IsSeenSet, Collects, CollectsOn}
 use Rattle.cs_trigram.proofs.SetLemmas.{has-append, has-set_of_numbers, ascends_set, set_of_numbers-push, with_number-member, length-with_number}
@@ -146,7 +145,3 @@ pub record IsPartlyCleared (bitmap numbers : List ℕ) (i : ℕ) : Type 0 where
   pub left : (n : ℕ) → has_bit bitmap n ≡ true → has (drop i numbers) n ≡ true
 
 -- ---- numbers with a bit are small
-
-all_by_index : (P : ℕ → Type 0) (xs : List ℕ) → ((i : ℕ) → i < length xs → P (get_or xs i 0)) → AllByRecursion P xs
-all_by_index P [] each = tt
-all_by_index P (x ∷ xs) each = (each 0 (omega arith), all_by_index P xs (λ i within. each (suc i) (omega (arith, within))))

@@ -49,12 +49,6 @@ mapped_next f done xs at x low is =
     append_assoc done (map f (take at xs)) (f x ∷ [])
     ∙ ap (λ l. done ++ l) (sym (map-append f (take at xs) (x ∷ [])) ∙ sym (ap (map f) (take_more xs at x low ∙ ap (λ y. take at xs ++ y ∷ []) (sym is))))
 
-pub next_of : {X : Type 0} (done xs : List X) (at : ℕ) (x : X) → at < length xs → x ≡ get_or xs at x →
-    (done ++ take at xs) ++ x ∷ [] ≡ done ++ take (at + 1) xs
-next_of done xs at x low is =
-    append_assoc done (take at xs) (x ∷ [])
-    ∙ ap (λ l. done ++ l) (sym (take_more xs at x low ∙ ap (λ y. take at xs ++ y ∷ []) (sym is)))
-
 pub next_got : {X : Type 0} (done xs : List X) (at : ℕ) (d : X) → at < length xs →
     (done ++ take at xs) ++ get_or xs at d ∷ [] ≡ done ++ take (at + 1) xs
 next_got done xs at d low = append_assoc done (take at xs) (get_or xs at d ∷ []) ∙ ap (λ l. done ++ l) (sym (take_more xs at d low))

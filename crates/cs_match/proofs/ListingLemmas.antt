@@ -1,8 +1,9 @@
 -- Lists of matching lines: lines without a match, a line with one, and a list behind a list.
 use Rattle.std.proofs.Common.{◌≡◌, ℕ, zero, suc, ◌+◌, ◌-◌, ◌<◌, ◌≤◌, inl, inr, Bool, true, false, cond, ◌&&◌, nat_eq, List, [], ◌∷◌, ◌++◌, length, take, drop, get_or, refl, sym, ap, ap₂, subst, ◌∙◌, arith, drop-cons, length-take, length-drop, zero-add, append-nil}
-use Rattle.std.specs.Prelude.{slice_index, count_by}
+use Rattle.std.specs.Prelude.{slice_index, count_by, max}
 use Rattle.std.specs.List.{filter, range_with_len, AllByRecursion}
 use Rattle.std.proofs.lemmas.Bool.{cases_lt, eqb-true}
+use Rattle.std.proofs.lemmas.List.{drop-drop, drop-take, take-take}
 use Rattle.std.proofs.lemmas.List.Sums.{count_by-le-length}
 use Rattle.std.proofs.lemmas.List.Elements.{All-nil, All-from_recursion, recursion_from_All}
 use Rattle.cs_syntax.specs.Matching.{Tree, HasMatch}
@@ -16,12 +17,11 @@ use Rattle.cs_match.specs.MatchingEnds.{is_matching_end, matching_ends}
 use Rattle.cs_match.specs.Lanes.{AreListed}
 use Rattle.cs_match.specs.Listing.{ListsLines}
 use Rattle.cs_match.specs.declared.dfa.EndList.{EndList}
-use Rattle.cs_match.proofs.CandidateLemmas.{line_around}
 use Rattle.cs_match.proofs.ChunkLemmas.{AreListed-append}
 use Rattle.cs_match.proofs.CountingLemmas.{count_cons, none_counted}
 use Rattle.cs_match.proofs.LinesLemmas.{lines_within, terminated_lines-part, last_part-part, last_part-append}
 use Rattle.cs_match.proofs.MatchingEndLemmas.{ends-append, ends-more, newlines-more, length-matching_ends}
-use Rattle.cs_match.proofs.WholeLineLemmas.{between_by, whole_between, whole_line, whole_part, whole_is_terminated, terminated_lines-whole}
+use Rattle.cs_match.proofs.WholeLineLemmas.{between_by, whole_between, whole_line, whole_part, whole_is_terminated, terminated_lines-whole, whole_drop}
 
 pub both : (a b : Bool) → a && b ≡ true → (a ≡ true) × (b ≡ true)
 both true b e = (refl, e)
@@ -287,14 +287,56 @@ module _ (has_match : List ℕ → Bool) (block : List ℕ) (from to end : ℕ) 
       subst (λ part. has_match part ≡ true) (last_is_line block from start stop line)
       (subst (λ k. has_match (last_part (take (k - from) (drop from block))) ≡ true) (sym at) first.matches)
 
--- the line that ends at a newline, after the whole lines before it
-pub line_at : (block : List ℕ) (from size end : ℕ) → from ≤ end → end < length block → get_or block end 0 ≡ newline →
-    size ≤ length (take (end - from) (drop from block)) → AreWholeLines (take size (take (end - from) (drop from block))) →
-    HasNoNewline (drop size (take (end - from) (drop from block))) → IsLineAfter block from (from + size) end
-line_at block from size end low high here within whole part =
-    let none : 0 ≡ end - (from + (end - from)) = omega arith in
-    line_around block from (end - from) size end within whole part (omega arith) high
-    (subst (λ n. HasNoNewline (take n (drop (from + (end - from)) block))) none tt) (newline_here block end high here)
+no_newline_drop : (n : ℕ) (text : List ℕ) → HasNoNewline text → HasNoNewline (drop n text)
+no_newline_drop zero text none = none
+no_newline_drop (suc n) [] none = tt
+no_newline_drop (suc n) (b ∷ text) none = no_newline_drop n text none.1
+
+part_to : (block : List ℕ) (from to : ℕ) → from ≤ to → drop from (take to block) ≡ take (to - from) (drop from block)
+part_to block from to low =
+    let all : from + (to - from) ≡ to = omega (arith, low) in
+    subst (λ n. drop from (take n block) ≡ take (to - from) (drop from block)) all (drop-take from (to - from) block)
+
+-- the line that ends at a newline: it begins behind the last newline before, unless that is before the whole lines
+module _ (block : List ℕ) (from size end : ℕ) (low : from ≤ end) (high : end < length block) (here : get_or block end 0 ≡ newline)
+    (within : size ≤ end) (whole : AreWholeLines (take size (take end block))) (part : HasNoNewline (drop size (take end block))) where
+  line_past : from ≤ size → IsLineAfter block from size end
+  line_past past =
+      record {
+        low = past;
+        order = within;
+        high = high;
+        before = subst AreWholeLines (ap (drop from) (take-take size end block within) ∙ part_to block from size past)
+            (whole_drop from (take size (take end block)) whole);
+        part = subst HasNoNewline (part_to block size end within) part;
+        newline = newline_here block end high here;
+      }
+
+  line_all : size ≤ from → IsLineAfter block from from end
+  unfolding AreWholeLines
+  line_all before =
+      let none : 0 ≡ from - from = omega arith in
+      let rest : size + (from - size) ≡ from = omega (arith, before) in
+      record {
+        low = omega arith;
+        order = low;
+        high = high;
+        before = subst (λ n. AreWholeLines (take n (drop from block))) none tt;
+        part = subst HasNoNewline (drop-drop (from - size) size (take end block) ∙ ap (λ n. drop n (take end block)) rest
+            ∙ part_to block from end low) (no_newline_drop (from - size) (drop size (take end block)) part);
+        newline = newline_here block end high here;
+      }
+
+  pub line_at : (start : ℕ) → start ≡ max size from → IsLineAfter block from start end
+  line_at start greatest =
+      elim (cases_lt size from) [
+        | inl before ↦
+            let is : from ≡ start = omega (arith, greatest, before) in
+            subst (λ s. IsLineAfter block from s end) is (line_all (omega (arith, before)))
+        | inr past ↦
+            let is : size ≡ start = omega (arith, greatest, past) in
+            subst (λ s. IsLineAfter block from s end) is (line_past past)
+      ]
 
 -- a first element is written
 

@@ -18,8 +18,8 @@ pub(crate) struct Candidate {
     pub(crate) wasted: usize,
 }
 
-/// The line that ends at an offset, after whole lines from another offset on. It reads a byte of
-/// them once at most.
+/// The line that ends at an offset, after whole lines from another offset on. It looks back for a
+/// newline, and there is one before those lines, unless they begin the block.
 pub fn line_to(block: &[u8], from: usize, end: usize) -> Line
     requires low { from ≤ end }
     requires within { end < length block.now }
@@ -27,7 +27,7 @@ pub fn line_to(block: &[u8], from: usize, end: usize) -> Line
     ensures line { IsLineAfter block.now from result.start result.end }
     ensures end { result.end ≡ end }
 {
-    let start = from + whole_lines_len(&block[from..end]);
+    let start = whole_lines_len(&block[..end]).max(from);
     Line { start, end }
 }
 

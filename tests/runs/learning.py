@@ -166,6 +166,19 @@ def damaged(project):
     stores("the next one makes it anew", project, "--update", status=0)
 
 
+def batches(project):
+    """An update that is killed leaves the batches that it has stored, each of 300 MB, and the next one learns the rest."""
+    child = project.start(["--update"], subprocess.DEVNULL)
+    while child.poll() is None and not project.stored():
+        time.sleep(0.001)
+    child.kill()
+    child.communicate()
+    came = project.opened(*NOWHERE)
+    row("what a killed update has learned", came is None or 99 <= came < 104, True)
+    row("an update learns the rest", project.ran("--update")[0], 0)
+    stays("after which all is known", project, "--update", status=0)
+
+
 def taken(project):
     """Beside a `state~` that is not its own nothing is stored, there or elsewhere."""
     os.makedirs(os.path.dirname(project.state), mode=0o700)
@@ -245,7 +258,10 @@ def main():
     read_only, moved = Project("read only", 600, lambda: text(4000)), Project("moved", 300, lambda: text(4000))
     [write(f"{odd.top}/{it}", b"") for it in range(10)]
     write(odd.top + "/f", b"marker\n")
+    killed = Project("killed", 104, lambda: text(4000))
+    [os.truncate(f"{killed.top}/f{number:04}", 290_000_000) for number in range(100, 104)]
     settle()
+    batches(killed)
     budget(large)
     shutil.rmtree(large.top)
     [stores("a first state", it, "--update", status=0) for it in [*due, few, gone]]

@@ -18,8 +18,7 @@
 //!
 //! `cs` is `run_project` of `cs_project` over the disk (`project.rt`), with the state of the
 //! project as its knowledge: `state_folder.rt` says where that is, and `project_state.rt` makes it
-//! after the output, or takes it away. The first state of a large project is joined from those of
-//! its parts, each in a `PartFile`.
+//! after the output, a batch of files at a time, or takes it away.
 #![tactic(auto)]
 
 ghost use Rattle.std.specs.Prelude.{◌≡◌};
@@ -33,7 +32,6 @@ mod given;
 mod laws;
 mod outcome;
 mod own_tree;
-mod part_file;
 mod progress;
 mod project;
 mod project_state;

@@ -1,8 +1,7 @@
 // The state of a project on the disk.
-ghost use Rattle.std.specs.Prelude.{◌≡◌, ◌<◌, []};
+ghost use Rattle.std.specs.Prelude.{◌≡◌, []};
 
 use crate::own_tree::OwnTree;
-use crate::part_file::PartFile;
 use crate::progress::{CountedTree, ProgressLine};
 use crate::secret::SecretFile;
 use crate::state_folder::{Project, StateFolder};
@@ -12,12 +11,9 @@ use cs_storage::{
     DiskFolder, DiskIndex, IndexFolder, IndexUpdate, NewFile, StorageFault, begin_update,
     finish_update, replace_file,
 };
-use cs_tree::{DiskStore, DiskTree, Look, Output, StdSink, Store, write_all};
-use cs_update::{
-    SeenFile, StateParts, UpdateCall, UpdateFault, batch_len, first_state, is_due, update_state,
-};
+use cs_tree::{DiskTree, Look, Output, StdSink, Store, write_all};
+use cs_update::{SeenFile, UpdateCall, UpdateFault, batch_len, first_state, is_due, update_state};
 use std::alloc::{AllocError, Global};
-use std::fs::File;
 use std::io::IsTerminal;
 use std::time::SystemTime;
 
@@ -25,18 +21,11 @@ use std::time::SystemTime;
 const BUDGET: u64 = 150_000_000;
 
 /// The bytes of the files of a batch, unless there are too many batches: each is merged with the
-/// old state. Their postings take a fifth of that in memory.
+/// state of those before. Their postings take a fifth of that in memory.
 const BATCH: u64 = 300_000_000;
 
 /// About the most batches.
 const MOST_BATCHES: u64 = 16;
-
-/// The bytes of the files of a part of a first state, unless there are too many parts: the tables
-/// of all are in memory when they are joined.
-const PART: u64 = 90_000_000;
-
-/// About the most parts.
-const MOST_PARTS: u64 = 64;
 
 /// A folder for the state of a project, and the state file that was opened there.
 #[derive(Drop)]
@@ -94,8 +83,7 @@ impl FoundState {
         })
     }
 
-    /// Stores what is learned of files over the old state, or as a first one. So that little memory
-    /// is taken, an update learns a batch at a time, and a first state is joined from parts.
+    /// Stores what is learned of files over the old state, or as a first one.
     fn learn(
         &mut self,
         rt: &HostRuntime,
@@ -112,36 +100,37 @@ impl FoundState {
             inner,
             progress: &progress,
         };
-        let learned = if is_open {
-            self.update(rt, root, files, &mut tree)
-        } else {
-            self.store(rt, root, files, None, &mut tree)
-        };
+        let learned = self.store_all(rt.alloc(), root, files, is_open, &mut tree);
         progress.erase();
         learned
     }
 
-    /// Updates the state that was opened, by a batch of files at a time.
-    fn update<T: Look>(
+    /// Stores it a batch of files at a time, each over the state of those before, so that little
+    /// memory is taken, and a run that is interrupted keeps the batches that it has stored.
+    fn store_all<T: Look>(
         &mut self,
-        rt: &HostRuntime,
+        alloc: Global,
         root: &str,
         files: &[SeenFile],
+        is_open: bool,
         tree: &mut T,
     ) -> Result<(), StorageFault> {
-        let most = batch_size(files, BATCH, MOST_BATCHES);
+        let most = batch_size(files);
         let mut rest = files;
-        for _ in 0..files.len() {
+        let mut is_open = is_open;
+        for _ in 0..=files.len() {
             let (batch, later) = rest.split_at(batch_len(rest, most));
-            let Some(old) = self.closed() else {
+            let old = if is_open { self.closed() } else { None };
+            if is_open && old.is_none() {
                 return Err(StorageFault::Failed);
-            };
-            self.store(rt, root, batch, Some(old), tree)?;
+            }
+            self.store(alloc, root, batch, old, tree)?;
             rest = later;
             if rest.is_empty() {
                 break;
             }
             self.file = self.storage.look()?;
+            is_open = true;
         }
         Ok(())
     }
@@ -150,7 +139,7 @@ impl FoundState {
     /// taken away, and nothing is stored.
     fn store<T: Look>(
         &mut self,
-        rt: &HostRuntime,
+        alloc: Global,
         root: &str,
         files: &[SeenFile],
         old: Option<ClosedState<DiskIndex>>,
@@ -159,24 +148,20 @@ impl FoundState {
         let Some(key) = self.key else {
             return Err(StorageFault::Failed);
         };
-        let part = self.home.part_path(rt.alloc())?;
         if let Err(fault) = begin_update(&mut self.storage) {
             return Err(self.cause_of(fault));
         }
         let written = match self.storage.moment() {
             Some(moment) => {
                 let call = UpdateCall {
-                    alloc: rt.alloc(),
+                    alloc,
                     key,
                     root,
                     files,
                     moment,
                 };
                 let out = NewFile::new(&mut self.storage);
-                match old {
-                    Some(old) => write_update(&call, old, tree, out),
-                    None => write_first(rt, &call, part.as_str(), tree, out),
-                }
+                write_state(&call, old, tree, out)
             }
             None => Err(UpdateFault::Memory),
         };
@@ -194,15 +179,19 @@ impl FoundState {
     }
 }
 
-/// Gives an output the old state, updated by what is learned of files.
-fn write_update<T: Look, O: Output + Drop>(
+/// Gives an output the old state, updated by what is learned of files, or a first one.
+fn write_state<T: Look, O: Output + Drop>(
     call: &UpdateCall<'_>,
-    old: ClosedState<DiskIndex>,
+    old: Option<ClosedState<DiskIndex>>,
     tree: &mut T,
     out: O,
 ) -> Result<(), UpdateFault>
     requires { O.given out ≡ [] }
 {
+    let Some(old) = old else {
+        let _out = first_state(call, tree, out)?;
+        return Ok(());
+    };
     let Some(state) = StateFile::open(call.alloc, old.file, old.key)? else {
         return Err(UpdateFault::BadState);
     };
@@ -210,66 +199,13 @@ fn write_update<T: Look, O: Output + Drop>(
     Ok(())
 }
 
-/// Gives an output the first state: at once, or joined from the states of parts, each in a file at
-/// this path.
-fn write_first<T: Look, O: Output + Drop>(
-    rt: &HostRuntime,
-    call: &UpdateCall<'_>,
-    part: &str,
-    tree: &mut T,
-    out: O,
-) -> Result<(), UpdateFault>
-    requires { O.given out ≡ [] }
-{
-    let most = batch_size(call.files, PART, MOST_PARTS);
-    if batch_len(call.files, most) == call.files.len() {
-        let _out = first_state(call, tree, out)?;
-        return Ok(());
-    }
-    let mut stores = Vec::new(call.alloc);
-    let mut rest = call.files;
-    for _ in 0..call.files.len() {
-        let (files, later) = rest.split_at(batch_len(rest, most));
-        stores.push(write_part(rt, &UpdateCall { files, ..*call }, part, tree)?)?;
-        rest = later;
-        if rest.is_empty() {
-            break;
-        }
-    }
-    let mut parts = StateParts::new(call.alloc);
-    for (file, again) in stores {
-        parts.add(call.alloc, call.key, file, again)?;
-    }
-    let _out = parts.join(call.alloc, call.key, call.moment, out)?;
-    Ok(())
-}
-
-/// The first state of a part of the files, in a file that has this path for a moment, opened twice.
-fn write_part<T: Look>(
-    rt: &HostRuntime,
-    call: &UpdateCall<'_>,
-    path: &str,
-    tree: &mut T,
-) -> Result<(DiskStore<File>, DiskStore<File>), UpdateFault> {
-    let Ok(file) = PartFile::make(rt, path) else {
-        return Err(UpdateFault::Memory);
-    };
-    let file = first_state(call, tree, file)?;
-    match file.stores() {
-        Ok(stores) => Ok(stores),
-        Err(_) => Err(UpdateFault::Memory),
-    }
-}
-
-/// The number of bytes of a batch of files: so many, or more if there are too many batches.
-fn batch_size(files: &[SeenFile], least: u64, most_batches: u64) -> u64
-    requires { 0 < most_batches }
-{
+/// The number of bytes of a batch of files.
+fn batch_size(files: &[SeenFile]) -> u64 {
     let mut len: u64 = 0;
     for file in files {
         len = len.saturating_add(file.stamp.size);
     }
-    least.max(len / most_batches)
+    BATCH.max(len / MOST_BATCHES)
 }
 
 /// The state of a project on the disk.

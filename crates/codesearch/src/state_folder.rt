@@ -98,12 +98,6 @@ impl StateFolder {
         IndexPaths::of_file(alloc, file.as_str())
     }
 
-    /// The path of the file of a part of a first state.
-    pub(crate) fn part_path(&self, alloc: Global) -> Result<String, AllocError> {
-        let folder = self.path.as_str();
-        format!(in alloc; "{folder}/state~part")
-    }
-
     /// Whether there is neither a state nor one that a run makes.
     pub(crate) fn is_empty(&self, rt: &HostRuntime) -> Result<bool, AllocError> {
         let folder = self.path.as_str();

@@ -37,7 +37,7 @@ pub use Rattle.cs_tree.proofs.GrowsLemmas.{Grows-chain, Grows-same, leaves_flush
 pub use Rattle.cs_tree.proofs.PathSetLemmas.{alike, entries_in_order, same_set, tied_is, tied_same}
 pub use Rattle.cs_tree.proofs.PrefixLemmas.{prefix_all, prefix_left, prefix_none, prefix_right}
 pub use Rattle.cs_tree.proofs.ReadCountLemmas.{reads_nothing, reads_on}
-pub use Rattle.cs_tree.proofs.RequestLemmas.{requests_none, requests_on, requests_one}
+pub use Rattle.cs_tree.proofs.RequestLemmas.{requests_none, requests_on}
 pub use Rattle.cs_tree.specs.Clean.{clean_path, longest_path}
 pub use Rattle.cs_tree.specs.Cleaning.{clean_fault, is_normalized}
 pub use Rattle.cs_tree.specs.Cover.{is_covered, least}

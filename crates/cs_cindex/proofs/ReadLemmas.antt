@@ -1,5 +1,5 @@
 -- Bounds on the bytes that are read, over a sequence of calls.
-use Rattle.std.proofs.Common.{◌≡◌, ◌≤◌, ◌+◌, ◌∙◌, ℕ, List, length, refl, ap, subst, Option, Some, None, Ok, arith}
+use Rattle.std.proofs.Common.{◌≡◌, ◌≤◌, ◌+◌, ◌∙◌, ℕ, List, length, refl, sym, ap, subst, Option, Some, None, Ok, arith}
 use Rattle.std.proofs.lemmas.Option.{none-some, same_Some}
 use Rattle.std.specs.Prelude.{IsSome, option_map}
 use Rattle.cs_tree.specs.ConsumesAtMost.{ConsumesAtMost}
@@ -9,12 +9,16 @@ use Rattle.cs_tree.specs.ReadsNothing.{ReadsNothing, bytes_read}
 use Rattle.cs_tree.specs.Snapshot.{Snapshot}
 use Rattle.cs_tree.specs.StreamModels.{SourceModel}
 use Rattle.cs_tree.specs.TreeReaders.{HasRead, open_model}
-use Rattle.cs_tree.specs.Trees.{OpensFile}
+use Rattle.cs_tree.specs.Trees.{OpensFile, RequestsPath}
 use Rattle.cs_tree.proofs.ReadCountLemmas.{reads_open}
 use Rattle.cs_trigram.specs.Text.{limits}
-use Rattle.cs_cindex.proofs.Common.{longest_path, RequestsWithin, reads_nothing, reads_on, requests_none, requests_on, requests_one}
+use Rattle.cs_cindex.proofs.Common.{longest_path, RequestsWithin, reads_nothing, reads_on, requests_none, requests_on}
 use Rattle.cs_cindex.specs.KeepsTree.{KeepsTree, BytesWithin}
 use Rattle.cs_cindex.specs.ReadsFiles.{ReadsFile, ReadsFiles}
+
+requests_one : (most : ℕ) (a b : Option ℕ) (path : List ℕ) → length path ≤ most → RequestsPath a b path → RequestsWithin most a b
+requests_one most None b path short requests = tt
+requests_one most (Some n) b path short requests = subst (RequestsWithin most (Some n)) (sym requests) (omega (arith, short))
 
 pub bytes_none : (limit : ℕ) (a : Option ReadCounts) → BytesWithin limit a a
 bytes_none limit None = tt

@@ -16,7 +16,7 @@ pub use Rattle.cs_merge.specs.Content.{DecodesAsContent, EachFile, IsContent, Li
 pub use Rattle.cs_merge.specs.Merge.{merge_files, merge_paths}
 pub use Rattle.cs_tree.proofs.FoundLemmas.{found_under, get-found}
 pub use Rattle.cs_tree.proofs.LeastLemmas.{covered-least, covered-union, least-union, least_is_unique, least_says}
-pub use Rattle.cs_tree.proofs.PathSetLemmas.{alike, contains-empty, contains-union, contains_first, entries_in_order, find-append, items_in_order, same_set, some_member, tied_is}
+pub use Rattle.cs_tree.proofs.PathSetLemmas.{alike, contains-union, entries_in_order, find-append, items_in_order, same_set, some_member, tied_is}
 pub use Rattle.cs_tree.specs.Clean.{absolute, clean_path, elements, has_nul, longest_path, path_of, with_element, with_slashes}
 pub use Rattle.cs_tree.specs.Cleaning.{clean_fault, is_normalized}
 pub use Rattle.cs_tree.specs.Cover.{begins, covers, is_covered, least}

@@ -1,6 +1,6 @@
 -- The paths of histories are clean and reduced, and their files are valid content.
 use Rattle.std.proofs.Common.{◌≡◌, ℕ, ◌<◌, ◌^◌, true, false, cond, eqb, List, length, get_or, refl, sym, ap, subst, ◌∙◌, inl, inr, Some, Ok}
-use Rattle.cs_history.proofs.Common.{Paths, true≢false, or_cases, is_covered, least, Snapshot, found_under, contains-union, contains-empty, least_says, least_is_unique, covered-least, Files, IsString, text_trigrams, limits, merge_files, IsContent, LieUnder, DecodesAsContent, newer_at, old_at, content_decodes, decoded_once, decoded_names, decoded_set, Parts, are_whole, lists_in, paths_in, files_in, Update, History, nothing, existing, ◌⊳◌, all_given_paths, paths_of, walked_paths, files_of, index_of, files_found, IsBuiltByJobs, indexed_names, AreClean, IsHistory, none-some}
+use Rattle.cs_history.proofs.Common.{Paths, true≢false, or_cases, is_covered, least, Snapshot, found_under, contains-union, least_says, least_is_unique, covered-least, Files, IsString, text_trigrams, limits, merge_files, IsContent, LieUnder, DecodesAsContent, newer_at, old_at, content_decodes, decoded_once, decoded_names, decoded_set, Parts, are_whole, lists_in, paths_in, files_in, Update, History, nothing, existing, ◌⊳◌, all_given_paths, paths_of, walked_paths, files_of, index_of, files_found, IsBuiltByJobs, indexed_names, AreClean, IsHistory, none-some}
 use Rattle.cs_index.specs.PostingLists.{set_at}
 use Rattle.std.specs.FinMap as map
 use Rattle.cs_tree.specs.PathSet as set
@@ -13,7 +13,7 @@ use Rattle.cs_tree.proofs.NormalizedLemmas.{normalized_filled, normalized_no_nul
 use Rattle.cs_history.specs.StartIndex.{HasStartIndex}
 use Rattle.cs_history.proofs.PathElementLemmas.{IsClean}
 use Rattle.cs_history.proofs.StartIndexLemmas.{find_all, decoded_content, start_clean, start_lies, start_opens}
-use Rattle.cs_history.proofs.MergedHistoryLemmas.{merge_kept, merge_paths_of, kept_decoded, get-kept}
+use Rattle.cs_history.proofs.MergedHistoryLemmas.{contains-empty, merge_kept, merge_paths_of, kept_decoded, get-kept}
 use Rattle.cs_history.proofs.WalkLemmas.{AreStrings, found_content, found_lies}
 use Rattle.std.proofs.lemmas.Option.{same_Some}
 

@@ -1,6 +1,6 @@
 -- The index after one more job.
 use Rattle.std.proofs.Common.{◌≡◌, ◌≢◌, ℕ, ◌<◌, ◌^◌, Bool, true, false, cond, eqb, List, [], ◌∷◌, length, map, refl, sym, ap, subst, ◌∙◌, Option, Some, None, Ok, string_bytes}
-use Rattle.cs_history.proofs.Common.{Paths, true≢false, ne_eqb, eqb-false, length-map, nat_list_cmp_total, is_covered, least, Snapshot, reachable_files, clean_path, alike, contains_first, contains-empty, found_under, Files, text_trigrams, limits, Parts, paths_in, files_in, merge_files, merge_paths, least-union, DecodesAsContent, content_decodes, History, nothing, existing, ◌⊳◌, Update, all_given_paths, paths_of, walked_paths, kept_at, files_of, index_of, files_found, IsBuiltByJobs, IsHistory, given_texts, given_paths, has_no_path, update_of, after_done, IndexJob}
+use Rattle.cs_history.proofs.Common.{Paths, true≢false, ne_eqb, eqb-false, length-map, nat_list_cmp_total, is_covered, least, Snapshot, reachable_files, clean_path, alike, found_under, Files, text_trigrams, limits, Parts, paths_in, files_in, merge_files, merge_paths, least-union, DecodesAsContent, content_decodes, History, nothing, existing, ◌⊳◌, Update, all_given_paths, paths_of, walked_paths, kept_at, files_of, index_of, files_found, IsBuiltByJobs, IsHistory, given_texts, given_paths, has_no_path, update_of, after_done, IndexJob}
 use Rattle.std.specs.FinMap as map'
 use Rattle.cs_tree.specs.PathSet as set
 use Rattle.cs_index.specs.Encoding.{encoding}
@@ -8,7 +8,7 @@ use Rattle.cs_index.specs.Opening.{opening}
 use Rattle.cs_merge.specs.Mergeable.{merge_index}
 use Rattle.cs_merge.proofs.OpeningLemmas.{decoded_opens}
 use Rattle.cs_history.specs.StartIndex.{HasStartIndex}
-use Rattle.cs_history.proofs.MergedHistoryLemmas.{merge_kept, merge_paths_of, kept_first, paths_first, get-kept, no_paths}
+use Rattle.cs_history.proofs.MergedHistoryLemmas.{contains-empty, contains_first, merge_kept, merge_paths_of, kept_first, paths_first, get-kept, no_paths}
 use Rattle.cs_history.proofs.HistoryLemmas.{history_lies, history_opens, reduced_walked, walk_content, index_decodes}
 use Rattle.cs_history.proofs.JobLemmas.{reset_starts}
 

@@ -1,12 +1,21 @@
 -- The merge of the index of a history with what a job found is the index of the history with the job.
-use Rattle.std.proofs.Common.{◌≡◌, ℕ, Bool, true, false, not, cond, ◌||◌, eqb, List, refl, sym, ap, ◌∙◌, inl, inr, Option, Some, None, is_some}
-use Rattle.cs_history.proofs.Common.{Paths, bytes_cmp, true≢false, cases_Bool, eqb-true, nat_list_cmp_total, list_any, eq_by_cmp, is_covered, least, alike, same_set, contains-union, contains-empty, least-union, least_is_unique, covered-union, covered-least, found_under, merge_files, merge_paths, get-merge_files, text_trigrams, limits, Files, Parts, files_in, Update, History, nothing, existing, ◌⊳◌, all_given_paths, paths_of, walked_paths, files_found, kept_at, names_found, files_of, or_parts}
+use Rattle.std.proofs.Common.{◌≡◌, ℕ, Bool, true, false, not, cond, ◌||◌, eqb, List, ◌∷◌, refl, sym, ap, ◌∙◌, inl, inr, Option, Some, None, is_some}
+use Rattle.cs_history.proofs.Common.{Paths, bytes_cmp, find, true≢false, cases_Bool, eqb-true, nat_list_cmp_total, list_any, eq_by_cmp, is_covered, least, alike, same_set, contains-union, least-union, least_is_unique, covered-union, covered-least, found_under, merge_files, merge_paths, get-merge_files, text_trigrams, limits, Files, Parts, files_in, Update, History, nothing, existing, ◌⊳◌, all_given_paths, paths_of, walked_paths, files_found, kept_at, names_found, files_of, or_parts}
 use Rattle.std.specs.FinMap as map
 use Rattle.cs_tree.specs.PathSet as set
 use Rattle.std.specs.Option.{option_or}
 use Rattle.cs_tree.proofs.CollectLemmas.{get-collected}
+use Rattle.cs_tree.proofs.PathSetLemmas.{tied_same}
 use Rattle.std.proofs.Math.Bool.{or-false}
 use Rattle.std.proofs.lemmas.List.Folds.{list_any-append}
+
+-- the empty set, and the first element of one
+pub contains-empty : (q : List ℕ) → set.contains map.empty q ≡ false
+contains-empty q = ap is_some (map.get-empty bytes_cmp q)
+
+pub contains_first : (p : List ℕ) (ps : List (List ℕ)) → set.contains (set.from_list (p ∷ ps)) p ≡ true
+contains_first p ps = ap is_some (map.get-from_entries nat_list_cmp_total (set.unit_entries (p ∷ ps)) p)
+    ∙ ap (λ b. is_some (cond b (Some tt) (find bytes_cmp p (set.unit_entries ps)))) (tied_same p)
 
 absent : (o : Option (List ℕ)) → is_some o ≡ false → o ≡ None
 absent None h = refl

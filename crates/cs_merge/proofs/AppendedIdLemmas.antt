@@ -1,6 +1,6 @@
 -- The ids of a part, increased by the number of the names before them, in the list of the join.
-use Rattle.std.proofs.Common.{◌≡◌, ◌≢◌, ℕ, ◌+◌, ◌<◌, ◌≤◌, cond, ◌||◌, false, List, [], ◌∷◌, ◌++◌, length, refl, sym, ap, subst, ◌∙◌, ◌⊎◌, inl, inr, None, arith}
-use Rattle.cs_merge.proofs.Common.{cases_eq, eq-eqb, ne_eqb, append-nil, AllByRecursion, has, Written, last_ids, with_last_ids, next_after, AscendWithin, ids_onward, without_number, with_last_id, IsBelow, IsRunOf, IsWrittenBelow}
+use Rattle.std.proofs.Common.{◌≡◌, ◌≢◌, ℕ, ◌+◌, ◌≤◌, cond, List, [], ◌∷◌, ◌++◌, length, refl, sym, ap, subst, ◌∙◌, ◌⊎◌, inl, inr, None, arith}
+use Rattle.cs_merge.proofs.Common.{eq-eqb, Written, last_ids, with_last_ids, next_after, AscendWithin, ids_onward, without_number, with_last_id, IsBelow, IsRunOf, IsWrittenBelow}
 use Rattle.cs_merge.proofs.WrittenBelowLemmas.{appended, has_begun, rises_on, run_fits, run_written, some_trigram, some_written, written_more}
 
 without_first : (id : ℕ) (ids : List ℕ) → without_number id (id ∷ ids) ≡ ids
@@ -48,14 +48,6 @@ begun_with_ids first before now ids id left (inr none) written =
     some [] e = cc
     some (one ∷ given) e = cc
 
--- all ids are written
-pub all_written : (first : ℕ) (before now : Written) (ids left : List ℕ) → left ≡ [] →
-    IsWrittenBelow None before now (ids_onward first ids) (ids_onward first left) →
-    now ≡ with_last_ids before (ids_onward first ids)
-all_written first before now ids left none written =
-    written.now_is ∙ ap (with_last_ids before) (sym (written.ids_are
-    ∙ ap (λ (l : List ℕ). written.given ++ ids_onward first l) none ∙ append-nil written.given))
-
 -- ---- the next id of a part, and the run that follows it
 
 module _ (first : ℕ) (before now : Written) (all ids : List ℕ) (id : ℕ) (rest : List ℕ)
@@ -101,63 +93,6 @@ module _ (first : ℕ) (before now : Written) (all ids : List ℕ) (id : ℕ) (r
 
 -- ---- which ids are in the list
 
-pub none_from : (first n : ℕ) (ids : List ℕ) → AllByRecursion (λ id. id < first) ids → first ≤ n → has ids n ≡ false
-none_from first n [] all from = refl
-none_from first n (id ∷ ids) all from =
-    let below : id < first = all.0 in
-    ap (λ b. b || has ids n) (ne_eqb id n (λ e. absurd (omega (arith, e, below, from)))) ∙ none_from first n ids all.1 from
-
-pub none_below : (first n : ℕ) (ids : List ℕ) → n < first → has (ids_onward first ids) n ≡ false
-none_below first n [] below = refl
-none_below first n (id ∷ ids) below =
-    ap (λ b. b || has (ids_onward first ids) n) (ne_eqb (first + id) n (λ e. absurd (omega (arith, e, below))))
-    ∙ none_below first n ids below
-
-pub has_onward : (first n : ℕ) (ids : List ℕ) → has (ids_onward first ids) (first + n) ≡ has ids n
-has_onward first n [] = refl
-has_onward first n (id ∷ ids) = elim (cases_eq id n) [
-  | inl same ↦
-      let moved : first + id ≡ first + n = omega (arith, same) in
-      ap (λ b. b || has (ids_onward first ids) (first + n)) (eq-eqb (first + id) (first + n) moved)
-      ∙ sym (ap (λ b. b || has ids n) (eq-eqb id n same))
-  | inr apart ↦
-      ap (λ b. b || has (ids_onward first ids) (first + n))
-      (ne_eqb (first + id) (first + n) (λ e. apart (omega (arith, e))))
-      ∙ has_onward first n ids
-      ∙ sym (ap (λ b. b || has ids n) (ne_eqb id n apart))
-]
-
-pub onward_under : (first count next : ℕ) (ids : List ℕ) → AscendWithin count next ids →
-    AllByRecursion (λ id. id < first + count) (ids_onward first ids)
-onward_under first count next [] up = tt
-onward_under first count next (id ∷ ids) up =
-    let below : id < count = up.1 in
-    (omega (arith, below), onward_under first count (id + 1) ids up.2)
-
 -- ids that are less than a number end before it
-pub next_within : (next first : ℕ) (ids : List ℕ) → AllByRecursion (λ id. id < first) ids → next ≤ first →
-    next_after next ids ≤ first
-next_within next first [] all from = from
-next_within next first (id ∷ ids) all from = let below : id < first = all.0 in next_within (id + 1) first ids all.1 (omega (arith, below))
-
-pub all_under : (first count : ℕ) (ids : List ℕ) → AllByRecursion (λ id. id < first) ids →
-    AllByRecursion (λ id. id < first + count) ids
-all_under first count [] all = tt
-all_under first count (id ∷ ids) all = let below : id < first = all.0 in (omega (arith, below), all_under first count ids all.1)
 
 -- ids of the part, increased, ascend from the next id of the list on
-pub onward_rises : (first count all next : ℕ) (ids : List ℕ) → AscendWithin count next ids → first + count ≤ all →
-    AscendWithin all (first + next) (ids_onward first ids)
-onward_rises first count all next [] up fits = tt
-onward_rises first count all next (id ∷ ids) up fits =
-    let from : next ≤ id = up.0 in
-    let below : id < count = up.1 in
-    let on : first + (id + 1) ≡ first + id + 1 = omega arith in (
-      omega (arith, from),
-      omega (arith, below, fits),
-      subst (λ n. AscendWithin all n (ids_onward first ids)) on (onward_rises first count all (id + 1) ids up.2 fits),
-    )
-
-pub rises_from : (count next from : ℕ) (ids : List ℕ) → next ≤ from → AscendWithin count from ids → AscendWithin count next ids
-rises_from count next from [] h up = tt
-rises_from count next from (id ∷ ids) h up = let first : from ≤ id = up.0 in (omega (arith, first, h), up.1, up.2)

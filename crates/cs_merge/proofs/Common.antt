@@ -32,7 +32,7 @@ pub use Rattle.cs_tree.specs.NameOrder.{bytes_cmp}
 pub use Rattle.cs_tree.specs.NamesAscending.{are_ascending}
 pub use Rattle.cs_tree.specs.PathParts.{texts}
 pub use Rattle.cs_tree.specs.PathSet.{Paths}
-pub use Rattle.cs_trigram.proofs.SetLemmas.{Above, all_above, all_weaker, ascends_head, ascends_set, ascends_tail, has-set_of_numbers}
+pub use Rattle.cs_trigram.proofs.SetLemmas.{Above, all_weaker, ascends_head, ascends_set, ascends_tail, has-set_of_numbers}
 pub use Rattle.cs_trigram.specs.Trigram.{Ascends, closing_trigram, has, set_of_numbers}
 pub use Rattle.cs_trigram.specs.TrigramSets.{AreDistinct, IsTrigramSet}
 pub use Rattle.std.proofs.Math.Bool.{or-true}

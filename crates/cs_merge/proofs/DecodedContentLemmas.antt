@@ -1,6 +1,6 @@
 -- What bytes decode as.
 use Rattle.std.proofs.Common.{◌≡◌, ℕ, zero, suc, ◌+◌, ◌<◌, ◌^◌, Bool, true, false, cond, List, [], ◌∷◌, length, map, take, drop, get_or, refl, sym, ap, subst, ◌∙◌, inl, inr, ◌⊎◌, Some, arith, T, is_some, filter, bytes_eq}
-use Rattle.cs_merge.proofs.Common.{Paths, bytes_cmp, damage, read_ids, set_at, entries_of, has, Ascends, IsTrigramSet, true≢false, cases_Bool, and_parts, AllByRecursion, list_all, nat_list_cmp_total, eq_by_cmp, is_sorted, find, tied_is, same_set, entries_in_order, Files, Entry, PostingList, ListEntry, three_bytes, IsString, names_tail, decoding_is_unique, Parts, ids_read, whole_ids, lists_in, files_read, paths_in, files_in, IsContent, DecodesAsContent, all_above, ascends_tail, names_entries, contains-from_list, true_from_T}
+use Rattle.cs_merge.proofs.Common.{Paths, bytes_cmp, damage, read_ids, set_at, entries_of, has, Ascends, IsTrigramSet, true≢false, cases_Bool, and_parts, AllByRecursion, list_all, nat_list_cmp_total, eq_by_cmp, is_sorted, find, tied_is, same_set, entries_in_order, Files, Entry, PostingList, ListEntry, three_bytes, IsString, names_tail, decoding_is_unique, Parts, ids_read, whole_ids, lists_in, files_read, paths_in, files_in, IsContent, DecodesAsContent, ascends_tail, names_entries, contains-from_list, true_from_T}
 use Rattle.cs_index.specs.WholeLists.{IsList}
 use Rattle.std.specs.FinMap as map'
 use Rattle.cs_tree.specs.PathSet as set
@@ -146,6 +146,15 @@ set_above n id (p ∷ ps) above =
       | true ↦ (above.0, set_above n id ps above.1)
       | false ↦ set_above n id ps above.1
     ]
+
+-- all numbers after the first of an ascending list are greater
+all_above : (n : ℕ) (ms : List ℕ) → Ascends (n ∷ ms) → AllByRecursion (λ m. n < m) ms
+all_above n [] up = tt
+all_above n (m ∷ ms) up = (up.0, all_above n ms (skip ms up.0 up.1))
+  where
+    skip : (ks : List ℕ) → n < m → Ascends (m ∷ ks) → Ascends (n ∷ ks)
+    skip [] h up = tt
+    skip (k ∷ ks) h up = (let g = up.0 in omega (arith, h, g), up.1)
 
 pub set_ascends : (id : ℕ) (ps : List PostingList) → Ascends (map (λ (p : PostingList). p.0) ps) → Ascends (set_at id ps)
 set_ascends id [] up = tt

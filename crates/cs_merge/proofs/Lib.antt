@@ -27,10 +27,3 @@ mod WholeListLemmas
 mod OldListLemmas
 mod ListLoopLemmas
 mod AppendedIdLemmas
-mod PartLemmas
-mod JoiningLemmas
-mod JoinNamesLemmas
-mod JoinedFilesLemmas
-mod JoinedListLemmas
-mod JoinLoopLemmas
-mod JoinExamples

@@ -1,5 +1,5 @@
 -- The definitions that the contracts of this crate cite, passed on from one place. Declares nothing.
-pub use Rattle.cs_index.specs.AscendingIds.{AscendWithin, ids_onward, max_ids, next_after}
+pub use Rattle.cs_index.specs.AscendingIds.{AscendWithin, max_ids}
 pub use Rattle.cs_index.specs.Built.{is_above, is_storable}
 pub use Rattle.cs_index.specs.Decoding.{DecodesAs}
 pub use Rattle.cs_index.specs.Encoding.{Files, IsString, encoding, encoding_of}
@@ -11,7 +11,7 @@ pub use Rattle.cs_index.specs.Roundtrip.{parts_written}
 pub use Rattle.cs_index.specs.Sending.{IsSentOn}
 pub use Rattle.cs_index.specs.Tables.{TablesIn}
 pub use Rattle.cs_index.specs.ValidParts.{AreValidParts}
-pub use Rattle.cs_index.specs.Written.{AllBelow, IsSentEarly, Written, entries_written, last_ids, with_last_ids, with_written_name}
+pub use Rattle.cs_index.specs.Written.{AllBelow, IsSentEarly, Written, entries_written, with_written_name}
 pub use Rattle.cs_tree.specs.ByteList.{AreBytes}
 pub use Rattle.cs_tree.specs.Cover.{is_covered, least}
 pub use Rattle.cs_tree.specs.Folders.{are_distinct}
@@ -23,8 +23,6 @@ pub use Rattle.cs_trigram.specs.Trigram.{closing_trigram}
 pub use Rattle.cs_merge.specs.Begun.{IsBegun, IsBegunWith}
 pub use Rattle.cs_merge.specs.Content.{DecodesAsContent, HasContent, IsContent, LieUnder, Opens}
 pub use Rattle.cs_merge.specs.IdMap.{AreByRank, AreDropped, AreIdMaps, AreMergedNames, AreScattered, IsIncreasing, IsMergingNames, IsRun, new_ids_of, new_ids_read}
-pub use Rattle.cs_merge.specs.Join.{IsJoinAnswer, joined_entries}
-pub use Rattle.cs_merge.specs.Joining.{AreJoining, AreNamesWritten, IsFrom, IsJoinBegun, IsJoinListsFault, IsJoiningList, IsListJoined, IsNamesFault, IsReady, IsStoredPart, IsUnread, KeepsPart, SomeHas, lists_left, part_names, part_paths, part_trigram}
 pub use Rattle.cs_merge.specs.ListMerge.{AreDistinctIds, AreLeft, BeginFrom, IsBelow, IsListAnswer, IsMergedList, IsRunOf, IsWrittenBelow, MayFollow, ids_after, list_ids, list_trigram, lower_of, new_of, position_after, without_number}
 pub use Rattle.cs_merge.specs.ListsFault.{IsListsFault, are_whole_from, rest_fault}
 pub use Rattle.cs_merge.specs.Merge.{merge_files, merge_paths}

@@ -11,7 +11,6 @@ pub mod Merge
 pub mod Content
 pub mod Mergeable
 pub mod MergeResult
-pub mod Join
 pub mod Replacing
 pub mod ListsFault
 -- Definitions that private contracts cite.
@@ -21,6 +20,5 @@ pub mod IdMap
 pub mod Begun
 pub mod ListMerge
 pub mod OldLists
-pub mod Joining
 -- What the contracts cite, passed on.
 pub mod Cited

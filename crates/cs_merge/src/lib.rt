@@ -39,14 +39,6 @@
 //! tables, and any bytes decode as ascending ids. Where the bytes of the store are known, each list
 //! is that of the index (`IsMergingLists`).
 //!
-//! *Join* (`joining`, and `joining_lists` for the posting lists). `join_stored` makes one index of
-//! several indexes in stores, if the names of each are above those of the one before it
-//! (`specs/Join.antt`). So the first index of a large tree is made in little memory: in parts, each
-//! written to a store, and then joined. The ids of a part are increased by the number of the names
-//! before them. So a list of the join is the lists of the parts one after another: of each list
-//! the first id is encoded again, and the others are copied. Of each part the tables are in memory,
-//! and a window over its lists (`StoredPart`).
-//!
 //! The contract mentions only the content of both indexes.
 //!
 //! A run of ids that the map shifts by one distance is copied as it is encoded, but only as far as
@@ -60,8 +52,6 @@
 
 mod fault;
 mod id_map;
-mod joining;
-mod joining_lists;
 pub mod laws;
 mod mapped_postings;
 mod merging;
@@ -69,10 +59,7 @@ mod merging_lists;
 mod merging_names;
 mod merging_trigrams;
 mod replacing;
-mod stored_part;
 
 pub use fault::MergeFault;
-pub use joining::join_stored;
 pub use merging::{merge, merge_stored};
 pub use replacing::{is_replaced, is_whole_stored};
-pub use stored_part::StoredPart;

@@ -1,8 +1,6 @@
 mod AnewLemmas
-mod FirstJoinLemmas
 mod FirstLemmas
 mod FoundLemmas
-mod JoinLemmas
 mod LearningLemmas
 mod MergedLemmas
 mod OldLemmas

@@ -5,7 +5,6 @@ pub mod Updates
 pub mod Updating
 pub mod OldTexts
 pub mod Due
-pub mod JoinedStates
 -- Definitions that private contracts cite.
 pub mod Reads
 pub mod NewStates

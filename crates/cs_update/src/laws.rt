@@ -1,5 +1,4 @@
 // Laws of the definitions. These functions do nothing.
-ghost use Rattle.cs_update.specs.JoinedStates.{FirstStatesJoin};
 ghost use Rattle.cs_update.specs.Updates.{LeftStatesAreLearned, UpdatesKeepLearned};
 
 /// An update keeps the premise of the next search.
@@ -10,9 +9,4 @@ pub fn an_update_keeps_what_was_learned()
 /// What a state knows that runs left was learned in these runs.
 pub fn states_that_runs_leave_are_learned()
     ensures { LeftStatesAreLearned }
-{}
-
-/// The join of the first states of several lists of files is a first state of all of them.
-pub fn first_states_join()
-    ensures { FirstStatesJoin }
 {}

@@ -16,11 +16,6 @@
 //! state: the old index with that of the texts that were learned, whose paths are the names that
 //! were seen (`own_paths`), and the stamps and the others by the same merge of two ascending lists
 //! (`write_stamps`, `write_others`).
-//!
-//! `StateParts` are states whose names are ascending ranges: the first states of parts of a large
-//! project. `join` makes one state of them (`specs/JoinedStates.antt`): their indexes are joined by
-//! cs_merge, and their stamps and their others follow, those of one state after those of another.
-//! So a first state of the whole project is made in the memory that a part needs.
 #![tactic(auto)]
 
 mod age;
@@ -29,7 +24,6 @@ mod counted_output;
 mod due;
 mod fault;
 mod found;
-mod joining;
 pub mod laws;
 mod learned;
 mod learning;
@@ -40,7 +34,6 @@ mod own_paths;
 mod own_texts;
 mod reading;
 mod stamps;
-mod state_parts;
 mod updating;
 mod watched;
 mod watching;
@@ -52,5 +45,4 @@ pub use due::{batch_len, is_due};
 pub use fault::UpdateFault;
 pub use learned::Learned;
 pub use learning::learn_files;
-pub use state_parts::StateParts;
 pub use updating::{first_state, update_state};

@@ -73,8 +73,9 @@ def hidden(what, data=None):
 
 def forgeries(state, there, secret, other):
     """States that the search may not believe, each with what it is."""
-    body, moment, count = state.body(), state.moment, len(pieces(state.body()))
-    end = ended(secret, moment, count, state.lengths())
+    body, moment = state.index, state.moment
+    length = len(body)
+    count, end = len(pieces(body)), ended(secret, moment, length)
 
     def summed(sum_of):
         return body + b"".join(sum_of(number, piece) for number, piece in enumerate(pieces(body)))
@@ -82,19 +83,19 @@ def forgeries(state, there, secret, other):
     yield "of another user, as in an image or an archive", state.sealed(other)
     yield "of no secret", state.sealed(bytes(16))
     yield "of a secret of zeros", state.sealed(bytes(32))
-    for magic in [MAGIC, b"codesearch state1"]:
-        yield f"with the sums of before and {magic}", summed(lambda _, piece: old_sum(piece)) + big(*state.lengths()) + magic
+    for magic in [MAGIC, b"codesearch state1", b"codesearch state2"]:
+        yield f"with the sums of before and {magic}", summed(lambda _, piece: old_sum(piece)) + big(length, 0) + magic
     yield "with the sums of before and a new end", summed(lambda _, piece: old_sum(piece)) + end
     yield "with the sums of the state there", body + there.sums[: 8 * count].ljust(8 * count, b"\0") + end
-    yield "with the end of another user", body + sums(secret, moment, body) + ended(other, moment, count, state.lengths())
+    yield "with the end of another user", body + sums(secret, moment, body) + ended(other, moment, length)
     yield "with the sums of another user", body + sums(other, moment, body) + end
-    yield "of another moment", body + sums(secret, moment, body) + ended(secret, moment + 1, count, state.lengths())
+    yield "of another moment", body + sums(secret, moment, body) + ended(secret, moment + 1, length)
     yield "of the pieces of two states", summed(lambda it, piece: piece_sum(secret, moment + it % 2, it, False, piece)) + end
     yield "of exchanged pieces", summed(lambda it, piece: piece_sum(secret, moment, it ^ 1, False, piece)) + end
     yield "of last pieces", summed(lambda it, piece: piece_sum(secret, moment, it, True, piece)) + end
-    yield "cut off", body + sums(secret, moment, body) + ended(secret, moment, count + 1, state.lengths())
-    lengths = state.lengths()[0] - 40, state.lengths()[1] + 40
-    yield "with other lengths", body + sums(secret, moment, body) + big(*lengths) + end[16:]
+    yield "cut off", body[:PIECE] + sums(secret, moment, body[:PIECE]) + end
+    yield "cut off, with its length", body[:PIECE] + sums(secret, moment, body[:PIECE]) + big(PIECE) + end[8:]
+    yield "with another length", body + sums(secret, moment, body) + big(length - 40) + end[8:]
 
 
 @contextlib.contextmanager
@@ -158,7 +159,7 @@ def flips(state, data):
     """Two flipped bits of a state lose no line."""
     dice = random.Random(3)
     for number in range(40):
-        ats, flipped = dice.sample(range(len(state.body()) // 8), 2), bytearray(data)
+        ats, flipped = dice.sample(range(len(state.index) // 8), 2), bytearray(data)
         for at in ats:
             flipped[8 * at + 7 * dice.randrange(2)] ^= 128
         if hides("flipped", bytes(flipped), ("-c", dice.choice(["good69", "int good1", "backdoor"]))):
@@ -201,10 +202,12 @@ def main():
     secret, other = read(KEY), read("other/.cache/codesearch/key")
     state = State(there)
     expect("the state as docs/FORMAT.md says it", there, state.sealed(secret))
-    expect("the names of both", len(clean.stamps), len(state.stamps))
-    clean.stamps, clean.others = state.stamps, state.others
+    expect("the names of both", [name.split(b"\1")[0] for name in clean.names()], [name.split(b"\1")[0] for name in state.names()])
+    clean.rename(clean.names())
+    expect("the index as docs/FORMAT.md says it", State(clean.sealed(secret)).index, clean.index)
+    clean.rename(state.names())
     forged = clean.sealed(secret, state.moment)
-    expect("pieces", True, len(clean.body()) > 2 * PIECE)
+    expect("pieces", True, len(clean.index) > 2 * PIECE)
     if not hides("the control", forged):
         complain("the control hides no line", len(forged))
     for what, data in forgeries(clean, state, secret, other):

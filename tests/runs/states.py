@@ -2,7 +2,7 @@
 import struct
 from functools import reduce
 
-MAGIC = b"codesearch state2"
+MAGIC = b"codesearch state3"
 PIECE = 65536
 ALL = 2**64 - 1
 
@@ -57,31 +57,40 @@ def sums(secret, moment, body):
     return b"".join(piece_sum(secret, moment, number, False, piece) for number, piece in enumerate(pieces(body)))
 
 
-def ended(secret, moment, count, lengths):
-    return big(*lengths) + piece_sum(secret, moment, count, True, big(*lengths)) + big(moment) + MAGIC
+def ended(secret, moment, length):
+    """The end of a state whose index has this length."""
+    number = (length + PIECE - 1) // PIECE
+    return big(length) + piece_sum(secret, moment, number, True, big(length)) + big(moment) + MAGIC
 
 
 class State:
-    """The index, the stamps and the other files of a state, its moment, and its sums."""
+    """The index of a state, its sums and its moment."""
 
     def __init__(self, data):
         if data[-17:] != MAGIC:
             raise ValueError("no state")
-        lengths, self.moment = struct.unpack(">2Q", data[-49:-33]), struct.unpack(">Q", data[-25:-17])[0]
-        room = len(data) - 49
-        body = data[: room - (room + PIECE + 7) // (PIECE + 8) * 8]
-        self.sums = data[len(body) : room]
-        middle = lengths[0] + lengths[1]
-        self.index, self.stamps, self.others = body[: lengths[0]], body[lengths[0] : middle], body[middle:]
-
-    def body(self):
-        return self.index + self.stamps + self.others
-
-    def lengths(self):
-        return len(self.index), len(self.stamps)
+        length, self.moment = struct.unpack(">Q", data[-41:-33])[0], struct.unpack(">Q", data[-25:-17])[0]
+        self.index, self.sums = data[:length], data[length:-41]
 
     def sealed(self, secret, moment=None):
         """The bytes of the state, sealed with a secret."""
         moment = self.moment if moment is None else moment
-        body = self.body()
-        return body + sums(secret, moment, body) + ended(secret, moment, len(pieces(body)), self.lengths())
+        return self.index + sums(secret, moment, self.index) + ended(secret, moment, len(self.index))
+
+    def names(self):
+        """The stamped names."""
+        _, names, lists = struct.unpack(">3I", self.index[-36:-24])
+        return self.index[names:lists].split(b"\0")[:-2]
+
+    def rename(self, names):
+        """Gives the files other stamped names, in their order."""
+        begins = struct.unpack(">5I", self.index[-36:-16])
+        grown = b"".join(name + b"\0" for name in names) + b"\0"
+        offsets = [0]
+        for name in names:
+            offsets.append(offsets[-1] + len(name) + 1)
+        more = len(grown) - (begins[2] - begins[1])
+        ends = [*begins[:2], *(begin + more for begin in begins[2:])]
+        lists, rest = self.index[begins[2] : begins[3]], self.index[begins[4] : -36]
+        table = struct.pack(f">{len(offsets)}I", *offsets)
+        self.index = self.index[: begins[1]] + grown + lists + table + rest + struct.pack(">5I", *ends) + self.index[-16:]

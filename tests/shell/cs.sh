@@ -156,11 +156,11 @@ state=$HOME/large/.git/codesearch/state
 cache=$HOME/.cache/codesearch
 rm -rf "$cache"
 cd "$HOME/large" || exit 2
-is_state() { [ "$(tail -c 17 "$1")" = 'codesearch state2' ]; }
+is_state() { [ "$(tail -c 17 "$1")" = 'codesearch state3' ]; }
 # unsealed FILE: what a state says, without its sums and its moment
 unsealed() {
-    room=$(($(stat -c %s "$1") - 49))
-    head -c $((room - 8 * ((room + 65543) / 65544))) "$1" && tail -c 49 "$1" | head -c 16
+    room=$(($(stat -c %s "$1") - 41))
+    head -c $((room - 8 * ((room + 65543) / 65544))) "$1" && tail -c 41 "$1" | head -c 8
 }
 says_alike() { [ "$(unsealed "$1" | sha1sum)" = "$(unsealed "$2" | sha1sum)" ]; }
 gives 1 'cs --no-update nowhere && cs --no-state nowhere'

@@ -73,12 +73,11 @@ impl FoundState {
         }
     }
 
-    /// The file that was opened, once more and again, if there is a key.
+    /// The file that was opened, once more, if there is a key.
     fn closed(&self) -> Option<ClosedState<DiskIndex>> {
         let _opened = self.file.as_ref()?;
         Some(ClosedState {
             file: self.storage.open_again().ok()?,
-            again: self.storage.open_again().ok()?,
             key: self.key?,
         })
     }
@@ -195,7 +194,7 @@ fn write_state<T: Look, O: Output + Drop>(
     let Some(state) = StateFile::open(call.alloc, old.file, old.key)? else {
         return Err(UpdateFault::BadState);
     };
-    let _out = update_state(call, state, old.again, tree, out)?;
+    let _out = update_state(call, state, tree, out)?;
     Ok(())
 }
 

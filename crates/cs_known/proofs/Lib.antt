@@ -3,7 +3,6 @@ mod LineLemmas
 mod SkippedTextLemmas
 mod LearnedLemmas
 mod UnprintedLemmas
-mod IndexedLemmas
-pub mod OtherFileLemmas
-pub mod StateLemmas
-mod SkipLemmas
+mod NameLemmas
+mod ReachedLemmas
+mod StateLemmas

@@ -2,6 +2,4 @@
 pub mod Skipped
 pub mod Learned
 pub mod Unprinted
-pub mod IndexedFiles
-pub mod OtherFiles
 pub mod KnownFiles

@@ -2,15 +2,15 @@
 use Rattle.std.specs.Prelude.{◌≡◌, ℕ, List, Option, Some, IfSome, false}
 use Rattle.cs_lines.specs.declared.search.LineSearch.{LineSearch}
 use Rattle.cs_trigram.specs.declared.queries.Query.{Query}
+use Rattle.cs_index.specs.OpenedParts.{Parts}
 use Rattle.cs_project.specs.Knowledge.{SearchedTree}
 use Rattle.cs_project.specs.Searched.{binary_as}
-use Rattle.cs_state.specs.Known.{ProjectState}
-use Rattle.cs_state.specs.ProjectStates.{IsState}
+use Rattle.cs_state.specs.StateFile.{IsState}
 use Rattle.cs_known.specs.KnownFiles.{AreOptions}
 use Rattle.cs_known.specs.Learned.{Run, StillHolds}
 use Rattle.cs_known.specs.Unprinted.{IsQueryOf, view_below}
-use Rattle.cs_known.specs.declared.known_files.KnownFiles.{KnownFiles}
-use Rattle.cs_known.specs.declared.options.SkipOptions.{SkipOptions}
+use Rattle.cs_known.specs.declared.types.KnownFiles.{KnownFiles}
+use Rattle.cs_known.specs.declared.types.SkipOptions.{SkipOptions}
 use Rattle.cs_learned.specs.KnownProjects.{IsKnownFor}
 use Rattle.cs_learned.specs.declared.closed_state.ClosedState.{ClosedState}
 use Rattle.cs_learned.specs.declared.closed_state.PreparedState.{PreparedState}
@@ -24,12 +24,11 @@ module _ {S : Type 0} (model : S → Option (List ℕ)) where
   -- The file is a state of the key that earlier runs learned below the folder, and still holds for the items and stamps of the tree.
   pub record IsLeftFor (root : List ℕ) (tree : SearchedTree) (closed : ClosedState S) : Type 0 where
     pub bytes : List ℕ
-    pub state : ProjectState
+    pub parts : Parts
     pub runs : List Run
     pub file : model closed.file ≡ Some bytes
-    pub again : model closed.again ≡ Some bytes
-    pub is_state : IsState closed.key bytes state
-    pub holds : StillHolds runs state (view_below root tree.items tree.stamps)
+    pub is_state : IsState closed.key bytes parts
+    pub holds : StillHolds runs parts (view_below root tree.items tree.stamps)
 
   abbrev pub IsPreparedFor : List ℕ → SearchedTree → PreparedState S → Type 0
   IsPreparedFor root tree prepared =
@@ -39,7 +38,7 @@ module _ {S : Type 0} (model : S → Option (List ℕ)) where
   abbrev pub IsUnread : List ℕ → Option (ClosedState S) → Option (PreparedState S) → SearchedTree → Type 0
   IsUnread root closed prepared tree = IfSome closed (IsLeftFor root tree) × IfSome prepared (IsPreparedFor root tree)
 
-  abbrev pub IsStillKnown : {I B : Type 0} → (I → Option (List ℕ)) → (B → Option (List ℕ)) → List ℕ →
-      Option (ClosedState S) → Option (PreparedState S) → Option (KnownFiles I B) → SearchedTree → Type 0
-  IsStillKnown index_model body_model root closed prepared files tree =
-      IsUnread root closed prepared tree × IsKnownFor index_model body_model root files tree
+  abbrev pub IsStillKnown : {B : Type 0} → (B → Option (List ℕ)) → List ℕ →
+      Option (ClosedState S) → Option (PreparedState S) → Option (KnownFiles B) → SearchedTree → Type 0
+  IsStillKnown index_model root closed prepared files tree =
+      IsUnread root closed prepared tree × IsKnownFor index_model root files tree

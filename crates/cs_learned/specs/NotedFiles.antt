@@ -6,14 +6,14 @@ use Rattle.cs_tree.specs.declared.tree.Stamp.{Stamp}
 use Rattle.cs_project.specs.Noted.{AreSeen, NotedFile}
 use Rattle.cs_known.specs.Learned.{View}
 use Rattle.cs_known.specs.Unprinted.{view_below}
-use Rattle.cs_known.specs.declared.seen.SeenFile.{SeenFile}
+use Rattle.cs_known.specs.declared.types.SeenFile.{SeenFile}
 use Rattle.cs_learned.specs.declared.known_project.KnownProject.{KnownProject}
 
 -- the files below a folder, by their paths
 abbrev pub noted_below : List ℕ → List SeenFile → List NotedFile
 noted_below root files = map (λ (file : SeenFile). (root ++ string_bytes file.name, file.stamp)) files
 
-abbrev pub noted_in : {I B : Type 0} → KnownProject I B → List NotedFile
+abbrev pub noted_in : {S : Type 0} → KnownProject S → List NotedFile
 noted_in known = noted_below (string_bytes known.root) known.unknown.items
 
 -- Each file has the stamp that is seen at its name.

@@ -9,8 +9,6 @@ use cs_trigram::Query;
 #[derive(Drop)]
 pub struct ClosedState<S> {
     pub file: S,
-    /// The same file again.
-    pub again: S,
     /// The key of the user.
     pub key: StateKey,
 }

@@ -6,16 +6,16 @@ ghost use Rattle.cs_project.specs.Noted.{NotesNothing};
 ghost use Rattle.cs_project.specs.Searched.{binary_as};
 ghost use Rattle.cs_learned.specs.ClosedStates.{AsksFor, IsPreparedFor, IsStillKnown, IsUnread};
 ghost use Rattle.cs_learned.specs.KnownProjects.{AreKnownFor};
-ghost use Rattle.cs_learned.specs.Learnable.{IsLearnable};
+ghost use Rattle.cs_learned.specs.Learnable.{IsToLearn};
 ghost use Rattle.cs_learned.specs.NotedFiles.{AreSeenBelow, noted_in};
 ghost use Rattle.cs_learned.specs.Thresholds.{files_before as files_before', learns_now, length_of as length_of'};
 
 use crate::closed_state::{ClosedState, PreparedState};
 use crate::known_project::KnownProject;
-use cs_known::{SeenFile, SkipOptions, StoredFiles};
+use cs_known::{KnownFiles, SeenFile, SkipOptions};
 use cs_lines::BinaryFiles;
 use cs_project::{AskedSearch, Knowledge};
-use cs_state::{FirstBytes, StateFile, SummedBytes};
+use cs_state::{StateFile, SummedBytes};
 use cs_tree::{IoFault, Stamp, Store};
 use cs_trigram::{Query, query};
 use std::alloc::{AllocError, Global};
@@ -44,7 +44,7 @@ pub struct StateKnowledge<S: Store> {
     closed: Option<ClosedState<S>>,
     /// The file of a search that has come to few files.
     prepared: Option<PreparedState<S>>,
-    known: KnownProject<FirstBytes<SummedBytes<S>>, SummedBytes<S>>,
+    known: KnownProject<SummedBytes<S>>,
     /// The number of files from which on the file is opened.
     few: usize,
     /// How many files the search has come to.
@@ -93,17 +93,17 @@ impl<S: Store + Drop> StateKnowledge<S> {
         self.is_update
     }
 
-    /// Whether the state is to be made anew: of the texts that it knows most are not in the
+    /// Whether the state is to be made anew: of the files that it knows most are not in the
     /// project, or have another stamp by now. Only a search shows it that has met all files, and
     /// has ended by itself.
     pub fn is_outdated(&self, is_ended: bool) -> bool {
-        let texts = match &self.known.files {
-            Some(files) => files.text_count() as usize,
+        let files = match &self.known.files {
+            Some(files) => files.file_count() as usize,
             None => 0,
         };
         let found = self.met.saturating_sub(self.known.unknown.len());
         let is_shown = is_ended && self.is_whole;
-        self.learns && is_shown && texts > found.saturating_mul(2).saturating_add(1000)
+        self.learns && is_shown && files > found.saturating_mul(2).saturating_add(1000)
     }
 
     /// The folder of the project.
@@ -119,7 +119,7 @@ impl<S: Store + Drop> StateKnowledge<S> {
     pub fn unknown(&self) -> &[SeenFile]
         ensures seen { AreSeenBelow (string_bytes self.now.known.root)
             (⟦<StateKnowledge<S> as Knowledge>⟧.noted self.now) result.now }
-        ensures learnable { All IsLearnable result.now }
+        ensures learnable { All IsToLearn result.now }
         ensures which { result.now ≡ (if learns_now self.now.is_update self.now.learns self.now.met
             self.now.prepared then self.now.known.unknown.items else []) }
     {
@@ -216,10 +216,9 @@ fn met_binaries(binary: bool) -> BinaryFiles
 fn open_files<S: Store + Drop>(
     alloc: Global,
     prepared: PreparedState<S>,
-) -> Result<Option<StoredFiles<S>>, AllocError>
+) -> Result<Option<KnownFiles<SummedBytes<S>>>, AllocError>
     ensures { (root : List ℕ) (tree : SearchedTree) → IsPreparedFor S.model root tree prepared → IfOk result
-        (λ found. IfSome found (AreKnownFor ⟦<FirstBytes<SummedBytes<S>> as Store>⟧.model
-        ⟦<SummedBytes<S> as Store>⟧.model root tree)) }
+        (λ found. IfSome found (AreKnownFor ⟦<SummedBytes<S> as Store>⟧.model root tree)) }
 {
     let PreparedState {
         closed,
@@ -227,16 +226,15 @@ fn open_files<S: Store + Drop>(
         query,
     } = prepared;
     match StateFile::open(alloc, closed.file, closed.key) {
-        Ok(Some(state)) => StoredFiles::open(alloc, options, &query, state, closed.again),
+        Ok(Some(state)) => KnownFiles::open(alloc, options, &query, state),
         Err(IoFault::Memory) => Err(AllocError),
         _ => Ok(None),
     }
 }
 
 impl<S: Store + Drop> Knowledge for StateKnowledge<S> {
-    ghost Holds = { λ k tree. IsStillKnown S.model ⟦<FirstBytes<SummedBytes<S>> as Store>⟧.model
-        ⟦<SummedBytes<S> as Store>⟧.model (string_bytes k.known.root) k.closed k.prepared
-        k.known.files tree };
+    ghost Holds = { λ k tree. IsStillKnown S.model ⟦<SummedBytes<S> as Store>⟧.model
+        (string_bytes k.known.root) k.closed k.prepared k.known.files tree };
 
     ghost noted = { λ k. noted_in k.known };
 

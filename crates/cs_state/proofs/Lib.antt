@@ -1,9 +1,8 @@
 mod Examples
 pub mod FormLemmas
+mod NumberLemmas
 mod OpeningLemmas
-pub mod OtherLemmas
 mod PieceLemmas
+pub mod StampedLemmas
 mod StoreLemmas
 mod SumLemmas
-mod WindowLemmas
-mod WriterLemmas

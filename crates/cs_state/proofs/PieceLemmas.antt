@@ -1,9 +1,23 @@
 -- Reads of a piece in memory.
-use Rattle.std.proofs.Common.{◌≡◌, ◌∙◌, ◌≤◌, ◌<◌, ℕ, zero, suc, ◌-◌, ◌*◌, ◌/◌, ◌%◌, min, List, ◌++◌, length, take, drop, refl, ap, arith, Option, Some, None, option_map, Ok, length-append, length-drop, length-take}
-use Rattle.std.proofs.lemmas.List.{take_at}
+use Rattle.std.proofs.Common.{◌≡◌, ◌∙◌, ◌≤◌, ◌<◌, ℕ, zero, suc, ◌+◌, ◌-◌, ◌*◌, ◌/◌, ◌%◌, min, List, [], ◌∷◌, ◌++◌, length, take, drop, refl, sym, ap, arith, Option, Some, None, option_map, Ok, length-append, length-drop, length-take}
+use Rattle.std.proofs.lemmas.List.{drop-drop, take_at}
 use Rattle.cs_tree.specs.Store.{GivesAt, ReadShows, part_of}
 use Rattle.cs_state.specs.Sums.{piece_len, piece_of}
-use Rattle.cs_state.proofs.WindowLemmas.{part_in, stand}
+use Rattle.cs_state.proofs.StoreLemmas.{part_of_first}
+
+cut : (xs : List ℕ) (k : ℕ) → take k xs ≡ take (length (take k xs)) xs
+cut xs zero = refl
+cut [] (suc k) = refl
+cut (x ∷ xs) (suc k) = ap (λ (ys : List ℕ). x ∷ ys) (cut xs k)
+
+-- a part of what was read at an offset, whether or not the bytes end first
+part_in : (bytes piece : List ℕ) (start most at len : ℕ) → piece ≡ part_of bytes start most → start ≤ at → at - start + len ≤ length piece →
+    part_of piece (at - start) len ≡ part_of bytes at len
+part_in bytes piece start most at len is from within =
+    let whole : start + (at - start) ≡ at = omega (arith, from) in
+    let all : piece ≡ take (length piece) (drop start bytes) = is ∙ cut (drop start bytes) most ∙ ap (λ p. part_of bytes start (length p)) (sym is) in
+    ap (λ p. part_of p (at - start) len) all ∙ part_of_first (length piece) (at - start) len (drop start bytes) (omega (arith, within))
+    ∙ ap (take len) (drop-drop (at - start) start bytes) ∙ ap (λ n. part_of bytes n len) whole
 
 module _ (bytes piece buf : List ℕ) (at from n : ℕ) (is : piece ≡ piece_of bytes (at / piece_len)) (begin : from ≡ min (length piece) (at % piece_len))
     (many : n ≡ min (length piece - from) (length buf)) where
@@ -15,7 +29,7 @@ module _ (bytes piece buf : List ℕ) (at from n : ℕ) (is : piece ≡ piece_of
       let start = piece_len * (at / piece_len) in
       let same : from ≡ at - start = omega (arith, begin, many, e) in
       ap (λ m. part_of piece m (suc k)) same
-      ∙ part_in bytes piece start at (suc k) (omega arith) (omega (arith, begin, many, e)) (stand bytes piece start piece_len is)
+      ∙ part_in bytes piece start piece_len at (suc k) is (omega arith) (omega (arith, begin, many, e))
 
   size : length (part_of piece from n) ≡ n
   size =

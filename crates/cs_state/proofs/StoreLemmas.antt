@@ -1,11 +1,9 @@
--- Reads of the first bytes of a store.
-use Rattle.std.proofs.Common.{◌≡◌, ℕ, zero, suc, ◌+◌, ◌-◌, ◌<◌, ◌≤◌, min, List, [], ◌∷◌, ◌++◌, length, take, drop, refl, sym, ap, subst, ◌∙◌, inl, inr, arith, Option, Some, None, option_map, Result, Ok, Err}
-use Rattle.std.specs.Result.{IfOk}
+-- The first bytes of a store.
+use Rattle.std.proofs.Common.{◌≡◌, ℕ, zero, suc, ◌+◌, ◌-◌, ◌≤◌, min, List, [], ◌∷◌, take, drop, refl, sym, ap, subst, ◌∙◌, inl, inr, arith, Option, Some}
 use Rattle.std.specs.Option.{IfSome}
 use Rattle.std.proofs.lemmas.Bool.{cases_lt}
-use Rattle.std.proofs.lemmas.List.{take-append-le, drop-take, length-take, length-append, length-drop, take_all}
-use Rattle.cs_tree.specs.declared.fault.IoFault.{IoFault}
-use Rattle.cs_tree.specs.Store.{ReadShows, GivesAt, part_of}
+use Rattle.std.proofs.lemmas.List.{drop-take, length-take, length-drop, take_all}
+use Rattle.cs_tree.specs.Store.{part_of}
 
 -- what holds of the bytes of a store
 pub at_some : (P : List ℕ → Type 0) (model : Option (List ℕ)) (bytes : List ℕ) → model ≡ Some bytes → IfSome model P → P bytes
@@ -35,24 +33,3 @@ part_within_first len at most bytes = sym (part_of_first len at (min most (len -
       ∙ sym (take_all most (drop at (take len bytes)) (omega (arith, d, t, less)))
   | inr more ↦ let e : min most (len - at) ≡ most = omega (arith, more) in ap (part_of (take len bytes) at) e
 ]
-
-module _ (len at room : ℕ) (bytes new buf : List ℕ) (size : length new ≡ room) (small : room ≤ len - at) (some : room ≡ 0 → 0 < length buf → len ≤ at) where
-  ends : (n : ℕ) → GivesAt bytes at new n → n ≡ 0 → 0 < length new + (length buf - room) → (r : ℕ) → room ≡ r →
-      min len (length bytes) ≤ at
-  ends n given none left zero e = let all = some e (omega (arith, size, e, left)) in omega (arith, all)
-  ends n given none left (suc r) e =
-      let all : length bytes ≤ at = given.1 none (omega (arith, size, e)) in omega (arith, all)
-
-  gives : (n : ℕ) → n ≤ length new → GivesAt bytes at new n → GivesAt (take len bytes) at (new ++ drop room buf) n
-  gives n within given = (
-    take-append-le n new (drop room buf) within ∙ given.0 ∙ sym (part_of_first len at n bytes (omega (arith, within, size, small))),
-    λ none left. simp length-take (ends n given none
-        (subst (λ (l : ℕ). 0 < l) (length-append new (drop room buf) ∙ ap (λ (l : ℕ). length new + l) (length-drop room buf)) left) room refl),
-  )
-
-pub shows_first : (len at room : ℕ) (model : Option (List ℕ)) (result : Result ℕ IoFault) (new buf : List ℕ) →
-    length new ≡ room → room ≤ len - at → (room ≡ 0 → 0 < length buf → len ≤ at) → IfOk result (λ n. n ≤ length new) →
-    ReadShows model at result new → ReadShows (option_map (take len) model) at result (new ++ drop room buf)
-shows_first len at room None result new buf size small some within shows = tt
-shows_first len at room (Some bytes) (Err fault) new buf size small some within shows = tt
-shows_first len at room (Some bytes) (Ok n) new buf size small some within shows = gives len at room bytes new buf size small some n within shows

@@ -1,6 +1,7 @@
 -- Sums of pieces.
 use Rattle.std.proofs.Common.{◌≡◌, ◌≤◌, ◌<◌, ℕ, zero, suc, ◌+◌, ◌-◌, ◌*◌, ◌/◌, ◌%◌, List, [], ◌∷◌, ◌++◌, append_assoc, length, take, drop, map, fold, min, bytes_eq, Bool, eqb, not, true, false, refl, sym, ap, ◌∙◌, arith}
 use Rattle.std.specs.Int.{div_ceil, from_le_bytes, w64}
+use Rattle.std.specs.Prelude.{OnOk, Result, Ok, Err}
 use Rattle.std.specs.Simd.{first_chunks}
 use Rattle.std.proofs.lemmas.Bool.{false≢true}
 use Rattle.std.proofs.lemmas.List.{drop-append-le, drop-drop, drop_at, length-append, length-drop, map_push, take-append-le, take_all}
@@ -135,3 +136,9 @@ is_tested seal bytes piece sum len number is there same =
       at,
       sym there ∙ (bytes_eq-Decides sum (sum_of seal number false piece)).0 same ∙ ap (sum_of seal number false) at,
     )
+
+-- ---- sealing
+
+pub on_ok : {T E A B : Type 0} (result : Result T E) → (A → B) → OnOk result A → OnOk result B
+on_ok (Ok x) so a = so a
+on_ok (Err e) so a = tt

@@ -1,12 +1,16 @@
 -- What earlier runs learned of the files of a project.
-use Rattle.std.specs.Prelude.{◌≡◌, ◌⊎◌, ℕ, Bool, ◌+◌, ◌&&◌, nat_eq, nat_lt, List, [], ◌∷◌}
+use Rattle.std.specs.Prelude.{ℕ, Bool, ◌+◌, ◌<◌, ◌^◌, ◌&&◌, nat_eq, nat_lt, List}
 use Rattle.cs_tree.specs.declared.tree.Stamp.{Stamp}
-use Rattle.cs_index.specs.OpenedParts.{Parts}
 
 abbrev pub is_same_stamp : Stamp → Stamp → Bool
 is_same_stamp a b =
     nat_eq a.device b.device && nat_eq a.inode b.inode && nat_eq a.size b.size && nat_eq a.modified b.modified
     && nat_eq a.changed b.changed
+
+-- the numbers of a stamp have eight bytes
+abbrev pub HasNumbers : Stamp → Type 0
+HasNumbers stamp =
+    (stamp.device < 2 ^ 64) × (stamp.inode < 2 ^ 64) × (stamp.size < 2 ^ 64) × (stamp.modified < 2 ^ 64) × (stamp.changed < 2 ^ 64)
 
 -- the coarsest clock of a file system, in nanoseconds: 2 seconds
 abbrev pub clock_grain : ℕ
@@ -28,13 +32,3 @@ pub record Known : Type 0 where
   pub name : List ℕ
   pub stamp : Stamp
   pub kept : Kept
-
--- the file is one of these
-abbrev pub IsListed : Known → List Known → Type 0
-IsListed one [] = ⊥
-IsListed one (other ∷ known) = (one ≡ other) ⊎ IsListed one known
-
--- The parts of the index of a project, and each file that is known.
-pub record ProjectState : Type 0 where
-  pub parts : Parts
-  pub known : List Known

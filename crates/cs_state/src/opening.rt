@@ -1,29 +1,31 @@
 // Opening a state file.
 ghost use Rattle.std.specs.Prelude.{◌≡◌, ◌+◌, ◌*◌, ◌<◌, ◌^◌, length, IfOk, IfSome};
-ghost use Rattle.cs_state.specs.Cited.{KeepsStore, eight_bytes, AreLengths, AreWithin, HasForm};
+ghost use Rattle.cs_state.specs.Cited.{KeepsStore, eight_bytes, end_of, HasForm};
 ghost use Rattle.cs_state.specs.Sums.{piece_count as piece_count'};
 
 use crate::state_key::{StateKey, StateSeal};
-use crate::state_lengths::StateLengths;
-use crate::sums::{PIECE_LEN, SUM_LEN, piece_count};
-use crate::writing::MAGIC;
+use crate::sums::{SUM_LEN, piece_count};
 use cs_tree::{IoFault, Store, read_part};
 use std::alloc::Global;
 
-/// The length of what follows the sums of pieces: two lengths, their sum, the moment and the magic.
-const END_LEN: usize = 49;
+/// What a state file ends with. It changes with every rule that a state rests on.
+pub(crate) const MAGIC: &[u8] = b"codesearch state3";
 
-/// The lengths of the sections of a state file, and its seal, if the store has the form of one that
-/// was sealed with the key.
-pub(crate) fn read_lengths<S: Store>(
+/// The length of what follows the sums of pieces: the length of the index, its sum, the moment and
+/// the magic.
+pub(crate) const END_LEN: usize = 41;
+
+/// The length of the index in a state file, and the seal, if the store has the form of one that was
+/// sealed with the key.
+pub(crate) fn read_form<S: Store>(
     alloc: Global,
     store: &mut S,
     key: StateKey,
-) -> Result<Option<(StateLengths, StateSeal)>, IoFault>
+) -> Result<Option<(usize, StateSeal)>, IoFault>
     ensures form { IfSome (S.model store.old) (λ bytes. IfOk result (λ found.
         IfSome found (λ f. HasForm f.1 bytes f.0))) }
     ensures key { IfOk result (λ found. IfSome found (λ f. f.1.key ≡ key)) }
-    ensures within { IfOk result (λ found. IfSome found (λ f. AreWithin f.0)) }
+    ensures short { IfOk result (λ found. IfSome found (λ f. f.0 < 2 ^ 32)) }
     ensures store { KeepsStore S.model S.size S.failed store.old store.new result }
 {
     let len = store.len();
@@ -34,64 +36,45 @@ pub(crate) fn read_lengths<S: Store>(
         return Ok(None);
     }
     let end = read_part(alloc, store, len - END_LEN, END_LEN)?;
-    Ok(lengths_in(key, &end, len - END_LEN))
+    Ok(form_in(key, &end, len - END_LEN))
 }
 
-fn lengths_in(key: StateKey, end: &[u8], room: usize) -> Option<(StateLengths, StateSeal)>
+/// The same, of the end and the number of bytes before it.
+fn form_in(key: StateKey, end: &[u8], room: usize) -> Option<(usize, StateSeal)>
     requires { room < 2 ^ 32 }
-    ensures lengths { IfSome result (λ found. AreLengths found.1 end.now room found.0) }
+    ensures end { IfSome result (λ found. end.now ≡ end_of found.1 found.0) }
+    ensures room { IfSome result (λ found. found.0 + 8 * piece_count' found.0 ≡ room) }
     ensures key { IfSome result (λ found. found.1.key ≡ key) }
 {
     if end.len() < END_LEN {
         return None;
     }
-    let (last, rest) = end.split_at(16);
+    let (last, rest) = end.split_at(8);
     let (sum, rest) = rest.split_at(SUM_LEN);
     let (moment, magic) = rest.split_at(8);
     if magic != MAGIC {
         return None;
     }
-    let body = body_len(room)?;
+    let index_len = number(last) as usize;
+    if index_len > room {
+        return None;
+    }
+    let count = piece_count(index_len);
+    if index_len + SUM_LEN * count != room {
+        return None;
+    }
     let seal = StateSeal {
         key,
         moment: number(moment),
     };
-    if sum != seal.sum(piece_count(body), true, last).as_slice() {
+    if sum != seal.sum(count, true, last).as_slice() {
         return None;
     }
-    let (index, stamps) = last.split_at(8);
-    let index = number(index) as usize;
-    let stamps = number(stamps) as usize;
-    if index > body {
-        return None;
-    }
-    if stamps > body - index {
-        return None;
-    }
-    let lengths = StateLengths {
-        index,
-        stamps,
-        body,
-    };
-    Some((lengths, seal))
-}
-
-/// The length of what precedes the sums, where both have as many bytes together.
-fn body_len(room: usize) -> Option<usize>
-    requires { room < 2 ^ 32 }
-    ensures { IfSome result (λ body. body + 8 * piece_count' body ≡ room) }
-{
-    let count = (room + PIECE_LEN + SUM_LEN - 1) / (PIECE_LEN + SUM_LEN);
-    let body = room.saturating_sub(SUM_LEN * count);
-    if body + SUM_LEN * piece_count(body) == room {
-        Some(body)
-    } else {
-        None
-    }
+    Some((index_len, seal))
 }
 
 /// The big-endian number of eight bytes.
-pub(crate) fn number(bytes: &[u8]) -> u64
+fn number(bytes: &[u8]) -> u64
     requires { length bytes.now ≡ 8 }
     ensures { eight_bytes result ≡ bytes.now }
 {

@@ -1,12 +1,14 @@
 // Outputs whose bytes are summed piece by piece.
 ghost use Rattle.std.proofs.Common.{◌∙◌};
-ghost use Rattle.std.specs.Prelude.{◌≡◌, ◌<◌, ◌++◌, [], IfOk, OnOk, length, refl};
-ghost use Rattle.cs_state.specs.Cited.{seal_of, sealed, sums_of, IsSummed, IsSummedIfWhole, KeepsSeal, bytes_given};
+ghost use Rattle.std.specs.Prelude.{◌≡◌, ◌<◌, ◌≤◌, ◌^◌, ◌++◌, [], Err, IfOk, OnOk, length, refl};
+ghost use Rattle.cs_state.specs.Sums.{piece_count};
+ghost use Rattle.cs_state.specs.Cited.{end_of, seal_of, sealed, sums_of, IsSummed, IsSummedIfWhole, KeepsSeal, bytes_given};
 
+use crate::fault::SealFault;
+use crate::opening::{END_LEN, MAGIC};
 use crate::state_key::{StateKey, StateSeal};
 use crate::summed_output::SummedOutput;
 use crate::sums::{PIECE_LEN, SUM_LEN};
-use crate::writing::MAGIC;
 use cs_tree::Output;
 use std::alloc::{AllocError, Global};
 
@@ -84,29 +86,50 @@ impl<O: Output> SummedOutput<O> {
 }
 
 impl<O: Output + Drop> SummedOutput<O> {
-    /// Sends the rest of the bytes, the sums, and then a last piece with its sum, the moment and
-    /// the magic. Gives the output back.
-    pub(crate) fn finish(mut self, last: &[u8]) -> Result<O, AllocError>
-        ensures { IsSummedIfWhole O.given self →
-            IfOk result (λ out. O.given out ≡ sealed self.seal (bytes_given O.given self) last.now) }
+    /// Sends the rest of the bytes, and then their sums and the end of a state. Gives the output
+    /// back. `TooLarge` if the state would have 2^32 bytes or more.
+    pub fn finish(mut self) -> Result<O, SealFault>
+        ensures bytes { IsSummedIfWhole O.given self →
+            IfOk result (λ out. O.given out ≡ sealed self.seal (bytes_given O.given self)) }
+        ensures short { IsSummedIfWhole O.given self → IfOk result (λ out. length (O.given out) < 2 ^ 32) }
+        ensures too_large { IsSummedIfWhole O.given self → result ≡ Err SealFault.TooLarge →
+            2 ^ 32 ≤ length (sealed self.seal (bytes_given O.given self)) }
     {
         if !self.whole {
-            return Err(AllocError);
+            return Err(SealFault::Memory);
         }
         self.complete()?;
         let SummedOutput {
             mut out,
             seal,
             sums,
+            len,
             ..
         } = self;
+        if len > u32::MAX as u64 || sums.len() + END_LEN > u32::MAX as usize - len as usize {
+            return Err(SealFault::TooLarge);
+        }
         out.append(&sums)?;
-        out.append(last)?;
-        out.append(&seal.sum(sums.len() / SUM_LEN, true, last))?;
-        out.append(&seal.moment.to_be_bytes())?;
-        out.append(MAGIC)?;
+        append_end(&mut out, seal, len, sums.len() / SUM_LEN)?;
         Ok(out)
     }
+}
+
+/// Appends the end of a state, by the length of its index and the number of the last piece.
+fn append_end<O: Output>(
+    out: &mut O,
+    seal: StateSeal,
+    index_len: u64,
+    number: usize,
+) -> Result<(), AllocError>
+    ensures { number ≡ piece_count index_len →
+        OnOk result (O.given out.new ≡ O.given out.old ++ end_of seal index_len) }
+{
+    let last = index_len.to_be_bytes();
+    out.append(&last)?;
+    out.append(&seal.sum(number, true, &last))?;
+    out.append(&seal.moment.to_be_bytes())?;
+    out.append(MAGIC)
 }
 
 impl<O: Output> Output for SummedOutput<O> {

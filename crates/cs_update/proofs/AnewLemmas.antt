@@ -1,35 +1,26 @@
 -- What a run learns was read anew.
-use Rattle.std.proofs.Common.{◌≡◌, ◌∙◌, ◌⊎◌, ℕ, Bool, true, false, List, [], ◌∷◌, map, refl, sym, ap, subst, Option, Some, None, inl, inr, cond, length, nat_eq, option_map, unwrap_or, if◌then◌else◌}
-use Rattle.std.specs.Prelude.{IsSome, IfSome}
+use Rattle.std.proofs.Common.{◌≡◌, ◌∙◌, ℕ, Bool, true, false, List, [], ◌∷◌, map, refl, sym, ap, subst, Option, Some, None, cond, length, nat_eq, option_map, unwrap_or, if◌then◌else◌}
+use Rattle.std.specs.Prelude.{IsSome}
 use Rattle.std.specs.FinMap as map'
 use Rattle.std.specs.FinMap.Entries.{find}
-use Rattle.std.specs.List.{AllByRecursion, cons_option, zip}
-use Rattle.std.specs.Ordering.{eq_by_cmp, is_eq, is_lt}
+use Rattle.std.specs.List.{AllByRecursion, cons_option}
+use Rattle.std.specs.Ordering.{eq_by_cmp}
 use Rattle.std.specs.Cmp.Lexicographic.{nat_list_cmp_total}
-use Rattle.std.specs.declared.cmp.Ordering.{Ordering}
-use Rattle.std.specs.declared.cmp.Ordering.TheVariants.{Equal, Greater, Less}
-use Rattle.std.proofs.lemmas.Bool.{false≢true, true≢false, and_parts, eqb-true}
+use Rattle.std.proofs.lemmas.Bool.{true≢false, and_parts, eqb-true}
 use Rattle.cs_tree.specs.NameOrder.{bytes_cmp}
-use Rattle.cs_tree.specs.NamesAscending.{are_ascending}
 use Rattle.cs_tree.specs.Reachability.{read_item}
 use Rattle.cs_tree.specs.Snapshot.{Item, file}
 use Rattle.cs_tree.specs.declared.tree.Stamp.{Stamp}
-use Rattle.cs_tree.proofs.PathSetLemmas.{tied_is, tied_same}
+use Rattle.cs_tree.proofs.PathSetLemmas.{tied_is}
 use Rattle.cs_trigram.specs.Text.{limits, text_trigrams}
-use Rattle.cs_index.specs.Encoding.{Entry, Files, names_of}
 use Rattle.cs_lines.specs.Shown.{is_binary}
-use Rattle.cs_known.specs.IndexedFiles.{text_known}
-use Rattle.cs_known.specs.Learned.{Run}
-use Rattle.cs_known.specs.Skipped.{is_known_stamp}
-use Rattle.cs_state.specs.Known.{is_old, is_same_stamp}
-use Rattle.cs_state.specs.Others.{other_of}
-use Rattle.cs_state.specs.declared.others.Unindexed.{Unindexed}
-use Rattle.cs_state.specs.declared.others.Unindexed.TheVariants.{Apart, Binary}
-use Rattle.cs_update.specs.Contents.{Content, content_of, item_content, seen_content, sized_content, text, text_content, unindexed}
-use Rattle.cs_update.specs.Learning.{LearnedFile, Seen, all_learned, entry_in, learned_as, other_files, other_in, stamp_in, text_entries, text_stamps}
-use Rattle.cs_update.specs.MergedLists.{Stamped}
+use Rattle.cs_known.specs.Learned.{ReadsAs, Run}
+use Rattle.cs_state.specs.Known.{HasNumbers, Known, is_old, is_same_stamp, apart, binary}
+use Rattle.cs_state.specs.StampedNames.{IsLearnable, stamped}
+use Rattle.cs_update.specs.Contents.{Content, content_of, is_still, item_content, seen_content, sized_content, text_content, unindexed}
+use Rattle.cs_update.specs.Learning.{LearnedFile, Seen, all_learned, entry_in, is_learnable, is_read, known_in, learned_as}
 use Rattle.cs_update.specs.Updates.{IsReadAnew}
-use Rattle.cs_update.proofs.MergedLemmas.{AreUp, each_named, more_above}
+use Rattle.cs_update.specs.Updating.{own_files}
 
 -- ---- stamps
 
@@ -47,93 +38,56 @@ same_stamp a b h =
       changed = eqb-true a.changed b.changed p.1 i;
     }
 
-known_stamp : (known : Stamp) (now : Option Stamp) → is_known_stamp known now ≡ true → now ≡ Some known
+known_stamp : (known : Stamp) (now : Option Stamp) → is_still known now ≡ true → now ≡ Some known
 known_stamp known None h = absurd (true≢false (sym h))
 known_stamp known (Some now) h = ap (λ (s : Stamp). Some s) (sym (same_stamp known now h))
 
 -- ---- contents
 
-abbrev some_text : Option Content → List ℕ
-some_text (Some (text trigrams)) = trigrams
-some_text _ = []
+-- the item reads as what it is known as
+abbrev Reads : Item → Content → Type 0
+Reads item content = ReadsAs content.kept (Some content.trigrams) item
 
-abbrev is_text : Option Content → Bool
-is_text (Some (text trigrams)) = true
-is_text _ = false
+reads_content : (bytes : List ℕ) (item : Item) → item ≡ file bytes → Reads item (content_of bytes)
+reads_content bytes item is = by_test (is_binary bytes) refl
+  where
+    by_set : (set : Option (List ℕ)) → text_trigrams limits bytes ≡ set → Reads item (text_content set)
+    by_set (Some trigrams) e = (refl, ap (read_item (text_trigrams limits)) is ∙ e)
+    by_set None e = tt
 
-abbrev is_binary_content : Option Content → Bool
-is_binary_content (Some (unindexed Binary)) = true
-is_binary_content _ = false
-
-text_of : (set : Option (List ℕ)) (trigrams : List ℕ) → Some (text_content set) ≡ Some (text trigrams) → set ≡ Some trigrams
-text_of None trigrams is = absurd (false≢true (ap is_text is))
-text_of (Some found) trigrams is = ap (λ c. Some (some_text c)) is
-
--- the item is a file of these bytes, whose content is this one
-abbrev IsFileOf : Item → Content → Type 0
-IsFileOf item content = (bytes : List ℕ) × (item ≡ file bytes) × (content_of bytes ≡ content)
+    by_test : (b : Bool) → is_binary bytes ≡ b → Reads item (if b then unindexed binary else text_content (text_trigrams limits bytes))
+    by_test true e = (bytes, is, e)
+    by_test false e = by_set (text_trigrams limits bytes) refl
 
 sized_read : (size : ℕ) (item : Item) (content : Content) → read_item (λ bytes. Some (sized_content size bytes)) item ≡ Some content →
-    (content ≡ unindexed Apart) ⊎ IsFileOf item content
-sized_read size (file bytes) content is = by_length (nat_eq (length bytes) size) is
+    Reads item content
+sized_read size (file bytes) content is =
+    subst (Reads (file bytes)) (ap (λ o. unwrap_or o content) is) (by_length (nat_eq (length bytes) size))
   where
-    by_length : (b : Bool) → Some (if b then content_of bytes else unindexed Apart) ≡ Some content →
-        (content ≡ unindexed Apart) ⊎ IsFileOf (file bytes) content
-    by_length true e = inr (bytes, refl, ap (λ o. unwrap_or o content) e)
-    by_length false e = inl (sym (ap (λ o. unwrap_or o content) e))
+    by_length : (b : Bool) → Reads (file bytes) (if b then content_of bytes else unindexed apart)
+    by_length true = reads_content bytes (file bytes) refl
+    by_length false = tt
 sized_read size item content is = cc
 
--- what was seen of a file has its stamp, and is the content of its bytes, or apart
-pub seen_read : (seen : Stamp) (now : Option Stamp) (item : Item) (content : Content) → seen_content seen now item ≡ Some content →
-    (now ≡ Some seen) × ((content ≡ unindexed Apart) ⊎ IsFileOf item content)
-seen_read seen now item content is = by_stamp (is_known_stamp seen now) refl is
+-- what was seen of a file has its stamp, and reads as its content
+seen_read : (seen : Stamp) (now : Option Stamp) (item : Item) (content : Content) → seen_content seen now item ≡ Some content →
+    (now ≡ Some seen) × Reads item content
+seen_read seen now item content is = by_stamp (is_still seen now) refl is
   where
-    by_size : (b : Bool) → (if b then None else read_item (λ bytes. Some (sized_content seen.size bytes)) item) ≡ Some content →
-        (content ≡ unindexed Apart) ⊎ IsFileOf item content
+    by_size : (b : Bool) → (if b then None else read_item (λ bytes. Some (sized_content seen.size bytes)) item) ≡ Some content → Reads item content
     by_size true e = cc
     by_size false e = sized_read seen.size item content e
 
-    by_stamp : (b : Bool) → is_known_stamp seen now ≡ b → (if b then item_content seen.size item else None) ≡ Some content →
-        (now ≡ Some seen) × ((content ≡ unindexed Apart) ⊎ IsFileOf item content)
+    by_stamp : (b : Bool) → is_still seen now ≡ b → (if b then item_content seen.size item else None) ≡ Some content →
+        (now ≡ Some seen) × Reads item content
     by_stamp true same e = (known_stamp seen now same, by_size (nat_eq seen.size 0) e)
     by_stamp false same e = cc
-
-pub text_read : (seen : Stamp) (now : Option Stamp) (item : Item) (trigrams : List ℕ) → seen_content seen now item ≡ Some (text trigrams) →
-    read_item (text_trigrams limits) item ≡ Some trigrams
-text_read seen now item trigrams is = by_side (seen_read seen now item (text trigrams) is).1
-  where
-    by_test : (bytes : List ℕ) (b : Bool) → (if b then unindexed Binary else text_content (text_trigrams limits bytes)) ≡ text trigrams →
-        text_trigrams limits bytes ≡ Some trigrams
-    by_test bytes true e = absurd (false≢true (ap (λ c. is_text (Some c)) e))
-    by_test bytes false e = text_of (text_trigrams limits bytes) trigrams (ap Some e)
-
-    by_side : (text trigrams ≡ unindexed Apart) ⊎ IsFileOf item (text trigrams) → read_item (text_trigrams limits) item ≡ Some trigrams
-    by_side (inl apart) = absurd (true≢false (ap (λ c. is_text (Some c)) apart))
-    by_side (inr read) = ap (read_item (text_trigrams limits)) read.1 ∙ by_test read.0 (is_binary read.0) read.2
-
-binary_read : (seen : Stamp) (now : Option Stamp) (item : Item) → seen_content seen now item ≡ Some (unindexed Binary) →
-    (bytes : List ℕ) × (item ≡ file bytes) × (is_binary bytes ≡ true)
-binary_read seen now item is = by_side (seen_read seen now item (unindexed Binary) is).1
-  where
-    not_text : (set : Option (List ℕ)) → is_binary_content (Some (text_content set)) ≡ false
-    not_text None = refl
-    not_text (Some trigrams) = refl
-
-    by_test : (bytes : List ℕ) (b : Bool) → is_binary bytes ≡ b →
-        (if b then unindexed Binary else text_content (text_trigrams limits bytes)) ≡ unindexed Binary → is_binary bytes ≡ true
-    by_test bytes true e is = e
-    by_test bytes false e is = absurd (true≢false (sym (ap (λ c. is_binary_content (Some c)) is) ∙ not_text (text_trigrams limits bytes)))
-
-    by_side : (unindexed Binary ≡ unindexed Apart) ⊎ IsFileOf item (unindexed Binary) →
-        (bytes : List ℕ) × (item ≡ file bytes) × (is_binary bytes ≡ true)
-    by_side (inl apart) = absurd (true≢false (ap (λ c. is_binary_content (Some c)) apart))
-    by_side (inr read) = (read.0, read.1, by_test read.0 (is_binary read.0) refl read.2)
 
 -- ---- files
 
 module _ (run : Run) where
   -- what the run sees of a file that was seen with a stamp
-  abbrev pub content_at : Seen → Option Content
+  abbrev content_at : Seen → Option Content
   content_at one = seen_content one.1 (run.view.stamp one.0) (run.view.item one.0)
 
   -- the file was seen with this stamp, which was old, and has this content
@@ -143,138 +97,70 @@ module _ (run : Run) where
 
   pub all_seen : (seen : List Seen) → AllByRecursion IsSeen (all_learned run seen)
   all_seen [] = tt
-  all_seen (one ∷ seen) = by_age (is_old run.moment one.1) (content_at one) refl refl (all_seen seen)
+  all_seen (one ∷ seen) = by_age (is_read run.moment one) (content_at one) refl refl (all_seen seen)
     where
-      by_age : (b : Bool) (content : Option Content) → is_old run.moment one.1 ≡ b → content_at one ≡ content →
+      by_age : (b : Bool) (content : Option Content) → is_read run.moment one ≡ b → content_at one ≡ content →
           AllByRecursion IsSeen (all_learned run seen) →
           AllByRecursion IsSeen (cons_option (if b then option_map (learned_as one) content else None) (all_learned run seen))
       by_age true None e c more = more
-      by_age true (Some content) e c more = (record { old = e; content = c }, more)
+      by_age true (Some content) e c more =
+          (record { old = (and_parts (is_old run.moment one.1) (is_learnable one.0) e).0; content = c }, more)
       by_age false content e c more = more
 
-  stamp_seen : (one : LearnedFile) → IsSeen one → run.view.stamp one.name ≡ Some one.stamp
-  stamp_seen one seen = (seen_read one.stamp (run.view.stamp one.name) (run.view.item one.name) one.content seen.content).0
+  -- The first of the files that has the name.
+  record IsFound (name : List ℕ) (files : List LearnedFile) : Type 0 where
+    file : LearnedFile
+    seen : IsSeen file
+    learnable : IsLearnable file.name
+    numbers : HasNumbers file.stamp
+    named : stamped (known_in file) ≡ name
+    found : find bytes_cmp name (map entry_in files) ≡ Some file.content.trigrams
 
-  module _ (own : Files) where
-    -- the own index has the trigrams of a text
-    abbrev HasEntry : LearnedFile → Type 0
-    HasEntry one = IfSome (entry_in one.name one.content) (λ (entry : Entry). map'.get own entry.0 ≡ Some entry.1)
+  find_file : (files : List LearnedFile) → AllByRecursion IsSeen files → AllByRecursion (λ (one : LearnedFile). IsLearnable one.name) files →
+      AllByRecursion (λ (one : LearnedFile). HasNumbers one.stamp) files → (name : List ℕ) →
+      IsSome (find bytes_cmp name (map entry_in files)) → IsFound name files
+  find_file [] seen names numbers name some = cc
+  find_file (one ∷ files) seen names numbers name some =
+      by_test (eq_by_cmp bytes_cmp name (stamped (known_in one))) refl some (find_file files seen.1 names.1 numbers.1 name)
+    where
+      by_test : (b : Bool) → eq_by_cmp bytes_cmp name (stamped (known_in one)) ≡ b →
+          IsSome (cond b (Some one.content.trigrams) (find bytes_cmp name (map entry_in files))) →
+          (IsSome (find bytes_cmp name (map entry_in files)) → IsFound name files) → IsFound name (one ∷ files)
+      by_test true e there later = record {
+        file = one;
+        seen = seen.0;
+        learnable = names.0;
+        numbers = numbers.0;
+        named = sym (tied_is name (stamped (known_in one)) e);
+        found = ap (λ b. cond b (Some one.content.trigrams) (find bytes_cmp name (map entry_in files))) e;
+      }
+      by_test false e there later =
+          let rest = later there in
+          record {
+            file = rest.file;
+            seen = rest.seen;
+            learnable = rest.learnable;
+            numbers = rest.numbers;
+            named = rest.named;
+            found = ap (λ b. cond b (Some one.content.trigrams) (find bytes_cmp name (map entry_in files))) e ∙ rest.found;
+          }
 
-    text_anew : (name trigrams : List ℕ) (stamp : Stamp) → IsSeen (record { name = name; stamp = stamp; content = text trigrams }) →
-        map'.get own name ≡ Some trigrams → IsReadAnew run own (text_known name stamp)
-    text_anew name trigrams stamp seen has = record {
-      stamp = stamp_seen (record { name = name; stamp = stamp; content = text trigrams }) seen;
-      old = seen.old;
-      read = (
-        subst IsSome (sym has) refl,
-        text_read stamp (run.view.stamp name) (run.view.item name) trigrams seen.content ∙ sym has,
-      );
-    }
-
-    other_anew : (name : List ℕ) (stamp : Stamp) (kept : Unindexed) →
-        IsSeen (record { name = name; stamp = stamp; content = unindexed kept }) → IsReadAnew run own (other_of name kept stamp)
-    other_anew name stamp Binary seen = record {
-      stamp = stamp_seen (record { name = name; stamp = stamp; content = unindexed Binary }) seen;
-      old = seen.old;
-      read = binary_read stamp (run.view.stamp name) (run.view.item name) seen.content;
-    }
-    other_anew name stamp Apart seen = record {
-      stamp = stamp_seen (record { name = name; stamp = stamp; content = unindexed Apart }) seen;
-      old = seen.old;
-      read = tt;
-    }
-
-    abbrev IsStampedAnew : Stamped → Type 0
-    IsStampedAnew one = IsReadAnew run own (text_known one.0 one.1)
-
-    pub texts_anew : (files : List LearnedFile) → AllByRecursion IsSeen files → AllByRecursion HasEntry files →
-        AllByRecursion IsStampedAnew (zip (names_of (text_entries files)) (text_stamps files))
-    texts_anew [] seen has = tt
-    texts_anew (one ∷ files) seen has = by_content one.content seen.0 has.0 (texts_anew files seen.1 has.1)
-      where
-        by_content : (content : Content) → IsSeen (record { name = one.name; stamp = one.stamp; content = content }) →
-            IfSome (entry_in one.name content) (λ (entry : Entry). map'.get own entry.0 ≡ Some entry.1) →
-            AllByRecursion IsStampedAnew (zip (names_of (text_entries files)) (text_stamps files)) →
-            AllByRecursion IsStampedAnew (zip (names_of (cons_option (entry_in one.name content) (text_entries files)))
-            (cons_option (stamp_in one.stamp content) (text_stamps files)))
-        by_content (text trigrams) s h more = (text_anew one.name trigrams one.stamp s h, more)
-        by_content (unindexed kept) s h more = more
-
-    pub others_anew : (files : List LearnedFile) → AllByRecursion IsSeen files → AllByRecursion (IsReadAnew run own) (other_files files)
-    others_anew [] seen = tt
-    others_anew (one ∷ files) seen = by_content one.content seen.0 (others_anew files seen.1)
-      where
-        by_content : (content : Content) → IsSeen (record { name = one.name; stamp = one.stamp; content = content }) →
-            AllByRecursion (IsReadAnew run own) (other_files files) →
-            AllByRecursion (IsReadAnew run own) (cons_option (other_in one.name one.stamp content) (other_files files))
-        by_content (text trigrams) s more = more
-        by_content (unindexed kept) s more = (other_anew one.name one.stamp kept s, more)
-
-    pub have_entries : (files : List LearnedFile) → AllByRecursion (λ (entry : Entry). map'.get own entry.0 ≡ Some entry.1) (text_entries files) →
-        AllByRecursion HasEntry files
-    have_entries [] all = tt
-    have_entries (one ∷ files) all = by_content (entry_in one.name one.content) all (have_entries files)
-      where
-        by_content : (entry : Option Entry) →
-            AllByRecursion (λ (entry : Entry). map'.get own entry.0 ≡ Some entry.1) (cons_option entry (text_entries files)) →
-            (AllByRecursion (λ (entry : Entry). map'.get own entry.0 ≡ Some entry.1) (text_entries files) → AllByRecursion HasEntry files) →
-            IfSome entry (λ (entry : Entry). map'.get own entry.0 ≡ Some entry.1) × AllByRecursion HasEntry files
-        by_content None all later = (tt, later all)
-        by_content (Some entry) all later = (all.0, later all.1)
-
--- ---- each entry is found by its name
-
-module _ {X : Type 0} where
-  above_named : (name : List ℕ) (list : List (List ℕ × X)) → are_ascending (name ∷ map (λ (one : List ℕ × X). one.0) list) ≡ true →
-      AllByRecursion (λ (one : List ℕ × X). is_lt (bytes_cmp name one.0) ≡ true) list
-  above_named name [] up = tt
-  above_named name (one ∷ list) up =
-      let both = and_parts (is_lt (bytes_cmp name one.0)) (are_ascending (one.0 ∷ map (λ (x : List ℕ × X). x.0) list)) up in
-      (both.0, more_above name one.0 both.0 list (above_named one.0 list both.1))
-
-  tail_named : (name : List ℕ) (list : List (List ℕ × X)) → are_ascending (name ∷ map (λ (one : List ℕ × X). one.0) list) ≡ true →
-      are_ascending (map (λ (one : List ℕ × X). one.0) list) ≡ true
-  tail_named name [] up = refl
-  tail_named name (one ∷ list) up =
-      (and_parts (is_lt (bytes_cmp name one.0)) (are_ascending (one.0 ∷ map (λ (x : List ℕ × X). x.0) list)) up).1
-
-  pub up_named : (list : List (List ℕ × X)) → are_ascending (map (λ (one : List ℕ × X). one.0) list) ≡ true → AreUp list
-  up_named [] up = tt
-  up_named (one ∷ list) up = (above_named one.0 list up, up_named list (tail_named one.0 list up))
-
-less_apart : (name other : List ℕ) → is_lt (bytes_cmp other name) ≡ true → eq_by_cmp bytes_cmp name other ≡ false
-less_apart name other less = by_test (eq_by_cmp bytes_cmp name other) refl
-  where
-    not_less : (o : Ordering) → is_lt o ≡ true → is_eq o ≡ true → ⊥
-    not_less Less l e = true≢false (sym e)
-    not_less Equal l e = true≢false (sym l)
-    not_less Greater l e = true≢false (sym l)
-
-    by_test : (b : Bool) → eq_by_cmp bytes_cmp name other ≡ b → b ≡ false
-    by_test true e =
-        let same = tied_is name other e in
-        absurd (not_less (bytes_cmp other name) less (ap (λ n. is_eq (bytes_cmp other n)) same ∙ tied_same other))
-    by_test false e = refl
-
-found_each : (list : List Entry) → AreUp list → AllByRecursion (λ (one : Entry). find bytes_cmp one.0 list ≡ Some one.1) list
-found_each [] up = tt
-found_each (one ∷ list) up = (
-  ap (λ b. cond b (Some one.1) (find bytes_cmp one.0 list)) (tied_same one.0),
-  both list up.0 (found_each list up.1),
-)
-  where
-    both : (others : List Entry) → AllByRecursion (λ (x : Entry). is_lt (bytes_cmp one.0 x.0) ≡ true) others →
-        AllByRecursion (λ (x : Entry). find bytes_cmp x.0 list ≡ Some x.1) others →
-        AllByRecursion (λ (x : Entry). find bytes_cmp x.0 (one ∷ list) ≡ Some x.1) others
-    both [] above found = tt
-    both (x ∷ others) above found = (
-      ap (λ b. cond b (Some one.1) (find bytes_cmp x.0 list)) (less_apart x.0 one.0 above.0) ∙ found.0,
-      both others above.1 found.1,
-    )
-
-pub got_each : (entries : List Entry) → are_ascending (names_of entries) ≡ true →
-    AllByRecursion (λ (one : Entry). map'.get (map'.from_entries {R = bytes_cmp} entries) one.0 ≡ Some one.1) entries
-got_each entries up =
-    each_named (λ (one : Entry). find bytes_cmp one.0 entries ≡ Some one.1)
-    (λ (one : Entry). map'.get (map'.from_entries {R = bytes_cmp} entries) one.0 ≡ Some one.1)
-    (λ one found. map'.get-from_entries nat_list_cmp_total entries one.0 ∙ found) entries (found_each entries (up_named entries up))
+  -- each file whose stamped name is in the own index was read anew
+  pub all_anew : ((a b : Known) → IsLearnable a.name → IsLearnable b.name → HasNumbers a.stamp → HasNumbers b.stamp →
+      stamped a ≡ stamped b → a ≡ b) → (seen : List Seen) →
+      AllByRecursion (λ (one : LearnedFile). IsLearnable one.name) (all_learned run seen) →
+      AllByRecursion (λ (one : LearnedFile). HasNumbers one.stamp) (all_learned run seen) →
+      (one : Known) → IsLearnable one.name → HasNumbers one.stamp → IsSome (map'.get (own_files run seen) (stamped one)) →
+      IsReadAnew run (own_files run seen) one
+  all_anew unique seen names numbers one learnable fits some =
+      let files = all_learned run seen in
+      let got = map'.get-from_entries nat_list_cmp_total (map entry_in files) (stamped one) in
+      let is = find_file files (all_seen seen) names numbers (stamped one) (subst IsSome got some) in
+      let same = unique (known_in is.file) one is.learnable learnable is.numbers fits is.named in
+      let read = seen_read is.file.stamp (run.view.stamp is.file.name) (run.view.item is.file.name) is.file.content is.seen.content in
+      subst (IsReadAnew run (own_files run seen)) same (record {
+        stamp = read.0;
+        old = is.seen.old;
+        read = subst (λ (t : Option (List ℕ)). ReadsAs is.file.content.kept t (run.view.item is.file.name))
+            (sym (ap (map'.get (own_files run seen)) is.named ∙ got ∙ is.found)) read.1;
+      })

@@ -16,9 +16,8 @@ use Rattle.cs_trigram.specs.declared.scan.Limits.{Limits}
 use Rattle.cs_trigram.specs.declared.scan.Reason.{Reason}
 use Rattle.cs_trigram.specs.declared.scan.Scan.TheVariants as scan
 use Rattle.cs_lines.specs.Shown.{is_binary}
-use Rattle.cs_state.specs.declared.others.Unindexed.TheVariants.{Binary, Apart}
-use Rattle.cs_known.specs.Skipped.{is_known_stamp}
-use Rattle.cs_update.specs.Contents.{Content, content_of, item_content, seen_content, sized_content, text, text_content, unindexed}
+use Rattle.cs_state.specs.Known.{binary, apart}
+use Rattle.cs_update.specs.Contents.{Content, content_of, is_still, item_content, seen_content, sized_content, text, text_content, unindexed}
 use Rattle.cs_update.specs.Reads.{HasOpened, IsReadToEnd, has_nul, is_missing}
 use Rattle.cs_update.proofs.SourceLemmas.{ahead, expected, take_none}
 
@@ -71,7 +70,7 @@ by_text (Some reason) set trigrams n len is = absurd (true≢false (ap is_text i
 
 by_skip : (broken : Option Reason) (reason : Reason) (trigrams : List ℕ) (len : ℕ) →
     skipped_for reason ≡ skipped_or broken (scans.text trigrams len) →
-    unindexed Apart ≡ text_content (if is_none broken then Some trigrams else None)
+    unindexed apart ≡ text_content (if is_none broken then Some trigrams else None)
 by_skip None reason trigrams len is = absurd (false≢true (ap is_text is))
 by_skip (Some other) reason trigrams len is = refl
 
@@ -79,20 +78,20 @@ by_skip (Some other) reason trigrams len is = refl
 
 module _ (most : Limits) (bytes : List ℕ) (ending : Ending) (has : Bool) where
   abbrev content : Content
-  content = if is_binary bytes then unindexed Binary else text_content (text_trigrams most bytes)
+  content = if is_binary bytes then unindexed binary else text_content (text_trigrams most bytes)
 
-  binary_found : has ≡ is_binary bytes → has ≡ true → unindexed Binary ≡ content
-  binary_found shown is = ap (λ b. if b then unindexed Binary else text_content (text_trigrams most bytes)) (sym is ∙ shown)
+  binary_found : has ≡ is_binary bytes → has ≡ true → unindexed binary ≡ content
+  binary_found shown is = ap (λ b. if b then unindexed binary else text_content (text_trigrams most bytes)) (sym is ∙ shown)
 
   module _ (shown : has ≡ is_binary bytes) (none : has ≡ false) (whole : ending ≡ ends) where
     not_binary : text_content (text_trigrams most bytes) ≡ content
-    not_binary = ap (λ b. if b then unindexed Binary else text_content (text_trigrams most bytes)) (sym none ∙ shown)
+    not_binary = ap (λ b. if b then unindexed binary else text_content (text_trigrams most bytes)) (sym none ∙ shown)
 
     text_found : (set : List ℕ) (n : ℕ) → scans.text set n ≡ scan_outcome_of most bytes ending → text set ≡ content
     text_found set n is =
         by_text (skip most bytes) set (tri bytes) n (length bytes) (is ∙ ap (scan_outcome_of most bytes) whole) ∙ not_binary
 
-    apart_found : (reason : Reason) → skipped_for reason ≡ scan_outcome_of most bytes ending → unindexed Apart ≡ content
+    apart_found : (reason : Reason) → skipped_for reason ≡ scan_outcome_of most bytes ending → unindexed apart ≡ content
     apart_found reason is =
         by_skip (skip most bytes) reason (tri bytes) (length bytes) (is ∙ ap (scan_outcome_of most bytes) whole) ∙ not_binary
 
@@ -118,19 +117,19 @@ shown_by most model after last seen has start left first missing size unseen who
 as_sized : (size : ℕ) (bytes : List ℕ) (found : Content) (whole : Bool) → whole ≡ nat_eq (length bytes) size → whole ≡ true →
     found ≡ content_of bytes → found ≡ sized_content size bytes
 as_sized size bytes found whole shown is same =
-    same ∙ ap (λ b. if b then content_of bytes else unindexed Apart) (sym is ∙ shown)
+    same ∙ ap (λ b. if b then content_of bytes else unindexed apart) (sym is ∙ shown)
 
 pub other_in : (size : ℕ) (model : Option SourceModel) (has whole : Bool) → Shows size model has whole → whole ≡ false →
-    Has size model (unindexed Apart)
+    Has size model (unindexed apart)
 other_in size None has whole shown is = tt
 other_in size (Some source) has whole shown is =
-    (ap (λ b. if b then content_of source.bytes else unindexed Apart) (sym is ∙ shown.2), shown.0)
+    (ap (λ b. if b then content_of source.bytes else unindexed apart) (sym is ∙ shown.2), shown.0)
 
 pub binary_in : (size : ℕ) (model : Option SourceModel) (has whole : Bool) → Shows size model has whole → whole ≡ true → has ≡ true →
-    Has size model (unindexed Binary)
+    Has size model (unindexed binary)
 binary_in size None has whole shown all is = tt
 binary_in size (Some source) has whole shown all is =
-    (as_sized size source.bytes (unindexed Binary) whole shown.2 all (binary_found limits source.bytes source.ending has shown.1 is), shown.0)
+    (as_sized size source.bytes (unindexed binary) whole shown.2 all (binary_found limits source.bytes source.ending has shown.1 is), shown.0)
 
 module _ {T : Type 0} (set : T → List ℕ) where
   pub text_in : (size : ℕ) (trigrams : T) (n : ℕ) (model : Option SourceModel) (has whole : Bool) → Shows size model has whole →
@@ -143,10 +142,10 @@ module _ {T : Type 0} (set : T → List ℕ) where
   )
 
   pub apart_in : (size : ℕ) (reason : Reason) (model : Option SourceModel) (has whole : Bool) → Shows size model has whole →
-      whole ≡ true → has ≡ false → IsScanOf limits model (Ok (scan.Skip reason)) set → Has size model (unindexed Apart)
+      whole ≡ true → has ≡ false → IsScanOf limits model (Ok (scan.Skip reason)) set → Has size model (unindexed apart)
   apart_in size reason None has whole shown all none is = tt
   apart_in size reason (Some source) has whole shown all none is = (
-    as_sized size source.bytes (unindexed Apart) whole shown.2 all
+    as_sized size source.bytes (unindexed apart) whole shown.2 all
         (apart_found limits source.bytes source.ending has shown.1 none shown.0 reason is),
     shown.0,
   )
@@ -161,12 +160,12 @@ not_empty size some = by_test (nat_eq size 0) refl
     by_test false e = refl
 
 opened_item : (seen : Stamp) (now : Option Stamp) (item : Item) (opened : Option SourceModel) (same : Bool) → nat_eq seen.size 0 ≡ false →
-    same ≡ is_known_stamp seen now → IsOkAnd (opening_of item) (λ file. opened ≡ Some file) →
+    same ≡ is_still seen now → IsOkAnd (opening_of item) (λ file. opened ≡ Some file) →
     HasOpened seen.size opened (seen_content seen now item) same
 opened_item seen now item opened false some is opens = ap (λ b. if b then item_content seen.size item else None) (sym is)
 opened_item seen now item opened true some is opens = by_item item opens
   where
-    content_is : (content : Option Content) → (if is_known_stamp seen now then (if nat_eq seen.size 0 then None else content) else None) ≡ content
+    content_is : (content : Option Content) → (if is_still seen now then (if nat_eq seen.size 0 then None else content) else None) ≡ content
     content_is content = ap (λ b. if b then (if nat_eq seen.size 0 then None else content) else None) (sym is)
         ∙ ap (λ b. if b then None else content) some
 
@@ -179,9 +178,9 @@ opened_item seen now item opened true some is opens = by_item item opens
 
 -- what is opened is what the run learns of the file
 pub opened_seen : (snapshot : Option Snapshot) (stamps : Snapshot → List ℕ → Option Stamp) (path : List ℕ) (seen : Stamp) (now : Option Stamp)
-    (opened : Option SourceModel) (same : Bool) → (seen.size ≡ 0 → ⊥) → same ≡ is_known_stamp seen now →
+    (opened : Option SourceModel) (same : Bool) → (seen.size ≡ 0 → ⊥) → same ≡ is_still seen now →
     OpensFile {A = Option Stamp} snapshot path (Ok now) opened → IfSome snapshot (λ tree. now ≡ stamps tree path) →
     IfSome snapshot (λ items. HasOpened seen.size opened (seen_content seen (stamps items path) (item_at items path)) same)
 opened_seen None stamps path seen now opened same some is opens stamp = tt
 opened_seen (Some tree) stamps path seen now opened same some is opens stamp =
-    opened_item seen (stamps tree path) (item_at tree path) opened same (not_empty seen.size some) (is ∙ ap (is_known_stamp seen) stamp) opens
+    opened_item seen (stamps tree path) (item_at tree path) opened same (not_empty seen.size some) (is ∙ ap (is_still seen) stamp) opens

@@ -1,12 +1,9 @@
 mod AnewLemmas
-mod FirstLemmas
 mod FoundLemmas
+mod LearnableLemmas
 mod LearningLemmas
-mod MergedLemmas
-mod OldLemmas
+mod NameLemmas
+mod IndexLemmas
 mod SourceLemmas
-mod StampLemmas
 mod StateLemmas
-mod TextLemmas
 mod UpdateLemmas
-mod WritingLemmas

@@ -1,7 +1,7 @@
 -- When an update of a state is due, and how many files one takes.
 use Rattle.std.specs.Prelude.{◌+◌, ◌/◌, ◌<◌, ◌≤◌, ℕ, Bool, nat_lt, if◌then◌else◌, List, length, take}
 use Rattle.std.specs.List.{sum_by}
-use Rattle.cs_known.specs.declared.seen.SeenFile.{SeenFile}
+use Rattle.cs_known.specs.declared.types.SeenFile.{SeenFile}
 use Rattle.cs_state.specs.Known.{is_old}
 
 -- the bytes of a file, if its stamp is old

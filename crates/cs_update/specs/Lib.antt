@@ -3,12 +3,9 @@ pub mod Contents
 pub mod Learning
 pub mod Updates
 pub mod Updating
-pub mod OldTexts
 pub mod Due
 -- Definitions that private contracts cite.
 pub mod Reads
-pub mod NewStates
-pub mod MergedLists
 pub mod Written
 -- What the contracts cite, passed on.
 pub mod Cited

@@ -6,8 +6,8 @@ use Rattle.cs_tree.specs.Transfers.{IsAt}
 use Rattle.cs_tree.specs.declared.fault.IoFault.{IoFault}
 use Rattle.cs_tree.specs.declared.fault.IoFault.TheVariants.{Failed}
 use Rattle.cs_update.specs.Contents.{Content, found_content, sized_content}
-use Rattle.cs_update.specs.declared.found.Found.{Found}
-use Rattle.cs_update.specs.declared.watched.Watched.{Watched}
+use Rattle.cs_update.specs.declared.types.Found.{Found}
+use Rattle.cs_update.specs.declared.types.Watched.{Watched}
 
 abbrev pub has_nul : List ℕ → Bool
 has_nul bytes = list_any (λ b. nat_eq b 0) bytes

@@ -1,12 +1,24 @@
-// When an update of a state is due, and how many files one takes.
+// Which stamps are old, when an update of a state is due, and how many files one takes.
 ghost use Rattle.std.specs.Prelude.{◌≡◌, min};
+ghost use Rattle.cs_state.specs.Known.{is_old as is_old'};
 ghost use Rattle.cs_update.specs.Cited.{IsBatch, is_due as is_due', old_bytes as old_bytes', old_size as old_size'};
 
-use crate::age::is_old;
 use cs_known::SeenFile;
+use cs_tree::Stamp;
+
+/// The coarsest clock of a file system, in nanoseconds.
+const CLOCK_GRAIN: u64 = 2_000_000_000;
 
 /// So many bytes that are read in vain are not worth an update.
 const LEAST: u64 = 1_000_000;
+
+/// Whether a write that follows the stamp gives another one, however coarse the clock.
+pub(crate) fn is_old(moment: u64, stamp: &Stamp) -> bool
+    ensures { result ≡ is_old' moment stamp.now }
+{
+    stamp.modified.saturating_add(CLOCK_GRAIN) < moment
+        && stamp.changed.saturating_add(CLOCK_GRAIN) < moment
+}
 
 /// Whether the unknown files with an old stamp have more bytes than 1 MB and half of those of the
 /// state: an update costs 17 ms for each MB of the state and 10 for each of the files, and spares

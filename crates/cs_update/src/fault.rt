@@ -2,7 +2,9 @@
 ghost use Rattle.std.specs.Prelude.{◌≡◌};
 ghost use Rattle.cs_update.specs.declared.fault.UpdateFault.TheVariants.{Memory};
 
+use cs_index::BuildFault;
 use cs_merge::MergeFault;
+use cs_state::SealFault;
 use cs_tree::IoFault;
 use std::alloc::{AllocError, AllocFailed};
 use thiserror::Error;
@@ -10,14 +12,14 @@ use thiserror::Error;
 /// Why files are not learned.
 #[derive(Clone, Copy, Debug, PartialEq, Eq, Drop, Error)]
 pub enum UpdateFault {
-    /// A name does not begin with a slash, has a NUL, or, of a text, is not above the text before;
-    /// or the paths are not those of an index.
+    /// The stamped name of a file is not above that of the file before; or the paths are not those
+    /// of an index.
     #[error("bad name")]
     BadName,
     /// The old state cannot be read, or is damaged: it counts as none.
     #[error("bad state")]
     BadState,
-    /// There are more texts than an index can have, or the state would have 2^32 bytes.
+    /// There are more files than an index can have, or the state would have 2^32 bytes.
     #[error("too large")]
     TooLarge,
     /// An allocation failed.
@@ -51,7 +53,26 @@ impl From<IoFault> for UpdateFault {
     }
 }
 
-/// A failed merge or join of indexes. An old index that cannot be merged is damaged.
+impl From<BuildFault> for UpdateFault {
+    fn from(fault: BuildFault) -> UpdateFault {
+        match fault {
+            BuildFault::Memory => UpdateFault::Memory,
+            BuildFault::TooLarge => UpdateFault::TooLarge,
+            _ => UpdateFault::BadName,
+        }
+    }
+}
+
+impl From<SealFault> for UpdateFault {
+    fn from(fault: SealFault) -> UpdateFault {
+        match fault {
+            SealFault::Memory => UpdateFault::Memory,
+            SealFault::TooLarge => UpdateFault::TooLarge,
+        }
+    }
+}
+
+/// A failed merge of indexes. An old index that cannot be merged is damaged.
 impl From<MergeFault> for UpdateFault {
     fn from(fault: MergeFault) -> UpdateFault {
         match fault {

@@ -1,11 +1,8 @@
 // Reading one file.
 ghost use Rattle.std.specs.Prelude.{◌≡◌, IfOk, IfSome, Some, false, option_map};
-ghost use Rattle.cs_known.specs.Skipped.{is_known_stamp};
-ghost use Rattle.cs_update.specs.Cited.{item_at, found_content, has_distinct, seen_content, HasOpened, IsFoundIn, IsReadToEnd};
+ghost use Rattle.cs_update.specs.Cited.{item_at, found_content, has_distinct, is_still, seen_content, HasOpened, IsFoundIn, IsReadToEnd};
 
-use crate::found::Found;
-use crate::watched::Watched;
-use cs_state::Unindexed;
+use crate::types::{Found, Watched};
 use cs_tree::{IoFault, Look, Source, Stamp, TreeFault, TreeReader};
 use cs_trigram::{Scan, ScanFault, Scanner};
 use std::alloc::AllocError;
@@ -55,7 +52,7 @@ fn open_seen<T: Look>(tree: &mut T, path: &str, stamp: &Stamp) -> Result<bool, A
 
 /// Whether the stamp is the one that was seen.
 fn is_same(seen: &Stamp, now: Option<Stamp>) -> bool
-    ensures { result ≡ is_known_stamp seen.now now }
+    ensures { result ≡ is_still seen.now now }
 {
     now == Some(*seen)
 }
@@ -81,14 +78,14 @@ fn find<'a, R: Source>(
     };
     skip_rest(source)?;
     if !source.is_whole() {
-        return Ok(Found::Unindexed(Unindexed::Apart));
+        return Ok(Found::Apart);
     }
     if source.has_nul {
-        return Ok(Found::Unindexed(Unindexed::Binary));
+        return Ok(Found::Binary);
     }
     match scan {
         Scan::Text { trigrams, .. } => Ok(Found::Text(trigrams)),
-        Scan::Skip(_) => Ok(Found::Unindexed(Unindexed::Apart)),
+        Scan::Skip(_) => Ok(Found::Apart),
     }
 }
 

@@ -2,7 +2,7 @@
 ghost use Rattle.std.specs.Prelude.{◌≡◌, ◌+◌, ◌-◌, ◌||◌, ℕ, false, Some, length, take};
 ghost use Rattle.cs_update.specs.Reads.{KeepsAhead, has_nul, is_missing, nul_ahead, whole_ahead};
 
-use crate::watched::Watched;
+use crate::types::Watched;
 use cs_lines::is_binary;
 use cs_tree::{IoFault, Source};
 

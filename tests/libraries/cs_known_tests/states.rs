@@ -1,7 +1,7 @@
 // A state that is written, opened, and asked for the files of a walk.
 use cs_index::Builder;
-use cs_known::{FileLookup, SkipOptions, StoredFiles};
-use cs_state::{StateFile, StateKey, StateWriter, SummedOutput, Unindexed};
+use cs_known::{FileLookup, KnownFiles, SkipOptions};
+use cs_state::{FileKind, StateFile, StateKey, SummedBytes, SummedOutput, stamped_name};
 use cs_tree::{MemStore, Output, Stamp};
 use cs_trigram::Query;
 use std::alloc::Global;
@@ -29,16 +29,19 @@ fn state(alloc: Global) -> Result<Vec<u8>, Fail> {
     let mut root = Vec::new(alloc);
     root.push(String::from_str(alloc, "/")?)?;
     let mut builder = Builder::new(alloc, &root)?;
-    let _a = builder.add("/a", &[0x626364])?;
-    let _c = builder.add("/b/c", &[ABC])?;
+    let files: [(&str, u64, FileKind, &[u32]); 4] = [
+        ("/a", 1, FileKind::Text, &[0x626364]),
+        ("/b", 2, FileKind::Binary, &[]),
+        ("/b/c", 3, FileKind::Text, &[ABC]),
+        ("/d", 4, FileKind::Apart, &[]),
+    ];
+    for (path, inode, kind, trigrams) in files {
+        let name = stamped_name(alloc, path, &stamp(inode), kind)?;
+        let _added = builder.add(name.as_str(), trigrams)?;
+    }
     let mut out = SummedOutput::new(alloc, Vec::new(alloc), StateKey::new(&SECRET), 6);
     out.append(&builder.finish()?)?;
-    let mut writer = StateWriter::new(out)?;
-    writer.stamp(&stamp(1))?;
-    writer.stamp(&stamp(3))?;
-    writer.other("/b", Unindexed::Binary, &stamp(2))?;
-    writer.other("/d", Unindexed::Apart, &stamp(4))?;
-    Ok(writer.finish()?)
+    Ok(out.finish()?)
 }
 
 /// The files of these bytes that a search knows.
@@ -47,13 +50,12 @@ fn files_of<'b>(
     bytes: &'b [u8],
     options: SkipOptions,
     query: &Query,
-) -> Result<Option<StoredFiles<MemStore<'b>>>, Fail> {
+) -> Result<Option<KnownFiles<SummedBytes<MemStore<'b>>>>, Fail> {
     let key = StateKey::new(&SECRET);
     let Some(file) = StateFile::open(alloc, MemStore::new(bytes, 1 << 16), key)? else {
         return Ok(None);
     };
-    let store = MemStore::new(bytes, 1 << 16);
-    Ok(StoredFiles::open(alloc, options, query, file, store)?)
+    Ok(KnownFiles::open(alloc, options, query, file)?)
 }
 
 const PLAIN: SkipOptions = SkipOptions {

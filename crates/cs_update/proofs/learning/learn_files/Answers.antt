@@ -9,7 +9,7 @@ files-preserved g c =
     let was = c.files.invariant in
     let call = c.args.call.now in
     record {
-      learned = λ items is. subst (HasLearned c.learn_file.new.learned)
+      learned = λ items is. subst (HasLearned c.learn_file.new.own)
           (learned_next (run_of call items (g.T.Look.stamps items)) call.files.now c.files.file-index c.file-item.result c.files-test.true
           c.file-item.is)
           (c.in_ok-learn_file.ensures.learned items (was.keeps ∙ is) _ (was.learned items is));
@@ -20,5 +20,5 @@ files-preserved g c =
 pub returns-clause-learned : goal.returns-clause-learned
 returns-clause-learned g c = λ items is.
     let call = c.args.call.now in
-    subst (λ files. HasLearned c.files.learned (all_learned (run_of call items (g.T.Look.stamps items)) (map seen_of files)))
+    subst (λ files. HasLearned c.files.own (all_learned (run_of call items (g.T.Look.stamps items)) (map seen_of files)))
     (take_all c.files.file-index call.files.now (omega (arith, c.files-test.false))) (c.files.invariant.learned items is)

@@ -3,5 +3,5 @@ use Rattle.cs_learned.proofs.known_project.KnownProject.find.Goals as goal
 
 pub returns-in-Some-clause-found : goal.returns-in-Some-clause-found
 returns-in-Some-clause-found g c =
-    found_in g.I.Store.model g.B.Store.model c.args.self.now.files c.in-Some.files c.args.name.now c.args.stamp.now c.find.result
+    found_in g.S.Store.model c.args.self.now.files c.in-Some.files c.args.name.now c.args.stamp.now c.find.result
     c.in-Some.is c.find.ensures.found

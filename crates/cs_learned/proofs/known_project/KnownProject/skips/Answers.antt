@@ -15,9 +15,9 @@ returns-in-Skipped-clause-skips g c =
     let files = c.args.self.now.files in
     let below = stripped path root name
     (subst (λ s. StripsPrefix (FindsTextPrefix s) path name) c.as_str.ensures.value c.in-Some-strip_prefix.ensures.cases) in
-    let found = subst (λ l. IsFoundIn g.I.Store.model g.B.Store.model files name c.in-Some.stamp l) c.in-Skipped.is c.in_ok-find.ensures.found in
-    subst (λ seen. SkipsNothingShown (IsKnownFor g.I.Store.model g.B.Store.model root files) path seen true) (sym c.in-Some.is)
-    (skips_nothing_shown g.I.Store.model g.B.Store.model root files c.a_skipped_path_prints_nothing.ensures path name c.in-Some.stamp below found)
+    let found = subst (λ l. IsFoundIn g.S.Store.model files name c.in-Some.stamp l) c.in-Skipped.is c.in_ok-find.ensures.found in
+    subst (λ seen. SkipsNothingShown (IsKnownFor g.S.Store.model root files) path seen true) (sym c.in-Some.is)
+    (skips_nothing_shown g.S.Store.model root files c.a_skipped_path_prints_nothing.ensures path name c.in-Some.stamp below found)
 
 pub returns-in_err-note-in-Unknown-clause-notes : goal.returns-in_err-note-in-Unknown-clause-notes
 returns-in_err-note-in-Unknown-clause-notes g c =

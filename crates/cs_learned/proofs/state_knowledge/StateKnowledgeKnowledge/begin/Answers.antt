@@ -19,5 +19,5 @@ returns-clause-begun g c tree asked held =
         binary = c.new.ensures.binary ∙ ap leaves_out (c.met_binaries.ensures ∙ ap (λ b. binary_as b false) (sym asked.binary));
       },
     ) in
-    still_known g.S.Store.model _ _ _ _ tree c.args.self.now.known c.prepare.new.self.known c.prepare.ensures.known
+    still_known g.S.Store.model _ _ _ tree c.args.self.now.known c.prepare.new.self.known c.prepare.ensures.known
     (c.prepare.ensures.unread (string_bytes c.args.self.now.known.root) tree asks held.0) held.1

@@ -3,7 +3,7 @@ use Rattle.cs_learned.proofs.state_knowledge.StateKnowledgeKnowledge.skips.Goals
 
 pub returns-clause-holds : goal.returns-clause-holds
 returns-clause-holds g c tree held =
-    still_kept g.S.Store.model _ _ _ _ tree c.meet.new.self.known c.skips.new.self c.skips.ensures.root c.skips.ensures.keeps
+    still_kept g.S.Store.model _ _ _ tree c.meet.new.self.known c.skips.new.self c.skips.ensures.root c.skips.ensures.keeps
     (c.in_ok-meet.ensures.holds tree held)
 
 pub returns-clause-notes : goal.returns-clause-notes
